@@ -1,0 +1,88 @@
+-- What a run reads and writes, by its status.
+use Rattle.std.specs.Prelude.{◌≡◌, ◌⊎◌, ◌<◌, ◌≤◌, ⊤, ℕ, List, [], ◌∷◌, ◌++◌, length, Option, Some, None, codes, decimal}
+use Rattle.std.specs.Io.KnownBytes.{Appends, IsAtEnd}
+use Rattle.lt_io.specs.Cause.{Rose, AppendsFront}
+use Rattle.lt_io.specs.declared.reading.TheConstants.{INPUT_LIMIT}
+use Rattle.lt_serve.specs.Status.{line_of, refusal_text}
+use Rattle.lt_serve.specs.declared.status.Status.{Status}
+use Rattle.lt_serve.specs.declared.status.Status.TheVariants.{Done, Usage, SourceFault, SinkFault, TooLong, NoMemory, NotYet}
+
+-- the last line of a session: its next and its settled number
+abbrev pub end_line : ℕ → ℕ → List ℕ
+end_line next kept = line_of (codes "end next " ++ decimal next ++ codes " kept " ++ decimal kept)
+
+-- the least line that has a form which isn't built yet: by now each line has
+abbrev pub first_not_yet : List ℕ → Option ℕ
+first_not_yet [] = None
+first_not_yet (byte ∷ bytes) = Some 0
+
+-- the text of a session that was read and is done
+abbrev pub IsText : List ℕ → List ℕ → Type 0
+IsText input text = text ≡ end_line 0 0
+
+-- an input within the limit whose lines all have a form that is built
+abbrev pub IsSessionInput : List ℕ → Type 0
+IsSessionInput input = (length input ≤ INPUT_LIMIT) × (first_not_yet input ≡ None)
+
+-- which input may end so, where it is told; the other statuses are not the input's matter
+abbrev pub MayEnd : Status → List ℕ → Type 0
+MayEnd Done input = IsSessionInput input
+MayEnd SinkFault input = IsSessionInput input
+MayEnd TooLong input = INPUT_LIMIT < length input
+MayEnd (NotYet line) input = (length input ≤ INPUT_LIMIT) × (first_not_yet input ≡ Some line)
+MayEnd Usage input = ⊤
+MayEnd SourceFault input = ⊤
+MayEnd NoMemory input = ⊤
+
+-- what ends only after the source was read to its end
+abbrev pub ReadsFirst : Status → Option (List ℕ) → Type 0
+ReadsFirst Done left = IsAtEnd left
+ReadsFirst SinkFault left = IsAtEnd left
+ReadsFirst (NotYet line) left = IsAtEnd left
+ReadsFirst Usage left = ⊤
+ReadsFirst SourceFault left = ⊤
+ReadsFirst TooLong left = ⊤
+ReadsFirst NoMemory left = ⊤
+
+-- the whole text of a session, or a front of it where the sink failed
+abbrev pub WritesText : Status → List ℕ → Option (List ℕ) → Option (List ℕ) → Type 0
+WritesText Done input old new = (text : List ℕ) × IsText input text × Appends old new text
+WritesText SinkFault input old new = (text : List ℕ) × IsText input text × AppendsFront old new text
+WritesText Usage input old new = ⊤
+WritesText SourceFault input old new = ⊤
+WritesText TooLong input old new = ⊤
+WritesText NoMemory input old new = ⊤
+WritesText (NotYet line) input old new = ⊤
+
+-- these bytes alone, or a front of them where the sink's count rose
+abbrev pub WritesAlone : List ℕ → Option (List ℕ) → Option (List ℕ) → ℕ → ℕ → Type 0
+WritesAlone text old new before now = Appends old new text ⊎ (Rose before now × AppendsFront old new text)
+
+-- a refusal writes its own line and nothing else
+abbrev pub WritesRefusal : Status → Option (List ℕ) → Option (List ℕ) → ℕ → ℕ → Type 0
+WritesRefusal Done old new before now = ⊤
+WritesRefusal SinkFault old new before now = ⊤
+WritesRefusal Usage old new before now = WritesAlone (refusal_text Usage) old new before now
+WritesRefusal SourceFault old new before now = WritesAlone (refusal_text SourceFault) old new before now
+WritesRefusal TooLong old new before now = WritesAlone (refusal_text TooLong) old new before now
+WritesRefusal NoMemory old new before now = WritesAlone (refusal_text NoMemory) old new before now
+WritesRefusal (NotYet line) old new before now = WritesAlone (refusal_text (NotYet line)) old new before now
+
+-- how a run may end once its input was read
+abbrev pub IsAfterReading : Status → Type 0
+IsAfterReading Done = ⊤
+IsAfterReading SinkFault = ⊤
+IsAfterReading (NotYet line) = ⊤
+IsAfterReading NoMemory = ⊤
+IsAfterReading Usage = ⊥
+IsAfterReading SourceFault = ⊥
+IsAfterReading TooLong = ⊥
+
+-- the answer to an input that was read, over what the sink held and holds and its counts
+pub record Answers (status : Status) (input : List ℕ) (old new : Option (List ℕ)) (before now : ℕ) : Type 0 where
+  pub after_reading : IsAfterReading status
+  pub input_of : MayEnd status input
+  pub text_of : WritesText status input old new
+  pub refusal_of : WritesRefusal status old new before now
+  pub sink_fault : status ≡ SinkFault → Rose before now
+  pub later : before ≤ now

@@ -1,0 +1,13 @@
+//! The top call: from the words and the source's bytes to the sink's bytes and a status.
+#![tactic(auto)]
+
+mod output;
+mod status;
+mod top;
+mod words;
+
+pub use status::Status;
+pub use top::run;
+
+#[cfg(test)]
+mod tests;

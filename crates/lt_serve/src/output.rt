@@ -1,0 +1,105 @@
+//! What a run writes: the one line of a refusal, or the text of a session.
+ghost use Rattle.std.specs.Prelude.{◌≡◌, ◌≤◌, ⊤, Some, None, IfOk, length};
+ghost use Rattle.lt_serve.specs.Status.{HasFixedLine, refusal_text};
+ghost use Rattle.lt_serve.specs.Output.{Answers, WritesAlone, end_line, first_not_yet};
+
+use crate::Status;
+use itoa::Buffer;
+use lt_io::{INPUT_LIMIT, Sink, SinkFault, write_all};
+use lt_rec::NoMemory;
+use std::alloc::Global;
+
+const USAGE: &str =
+    "usage: create DIR SCHEMA [TTL] | run DIR [--leave] | make SEED CLIENTS ROWS | drill DIR SEED CLIENTS ROWS\n";
+
+fn fixed_line(status: Status) -> &'static str
+    ensures { HasFixedLine status → result.now ≡ refusal_text status }
+{
+    match status {
+        Status::Done | Status::SinkFault | Status::NotYet { line: _ } => "",
+        Status::Usage => USAGE,
+        Status::SourceFault => "error: source\n",
+        Status::TooLong => "error: input too long\n",
+        Status::NoMemory => "error: no memory\n",
+    }
+}
+
+fn write_alone<K: Sink>(sink: &mut K, text: &[u8])
+    ensures line { WritesAlone text.now (K.held sink.old) (K.held sink.new) (K.faults sink.old) (K.faults sink.new) }
+    ensures later { K.faults sink.old ≤ K.faults sink.new }
+{
+    let _ = write_all(sink, text);
+}
+
+/// Writes the line of a refusal that takes no number. Takes no memory.
+pub fn refuse<K: Sink>(sink: &mut K, status: Status) -> Status
+    requires { HasFixedLine status }
+    ensures status { result ≡ status }
+    ensures line { WritesAlone (refusal_text status) (K.held sink.old) (K.held sink.new) (K.faults sink.old) (K.faults sink.new) }
+    ensures later { K.faults sink.old ≤ K.faults sink.new }
+{
+    write_alone(sink, fixed_line(status).as_bytes());
+    status
+}
+
+fn not_yet_line(alloc: Global, line: u64) -> Result<Vec<u8>, NoMemory>
+    ensures { IfOk result (λ text. text.items ≡ refusal_text (Status.NotYet line)) }
+{
+    let mut digits = Buffer::new();
+    let mut text = Vec::from_slice(alloc, b"error: not yet at line ")?;
+    text.extend_from_slice(digits.format(line).as_bytes())?;
+    text.push(b'\n')?;
+    Ok(text)
+}
+
+fn end_text(alloc: Global, next: u64, kept: u64) -> Result<Vec<u8>, NoMemory>
+    ensures { IfOk result (λ text. text.items ≡ end_line next kept) }
+{
+    let mut digits = Buffer::new();
+    let mut text = Vec::from_slice(alloc, b"end next ")?;
+    text.extend_from_slice(digits.format(next).as_bytes())?;
+    text.extend_from_slice(b" kept ")?;
+    text.extend_from_slice(digits.format(kept).as_bytes())?;
+    text.push(b'\n')?;
+    Ok(text)
+}
+
+fn refuse_line<K: Sink>(alloc: Global, sink: &mut K, input: &[u8], line: u64) -> Status
+    requires within { length input.now ≤ INPUT_LIMIT }
+    requires first { first_not_yet input.now ≡ Some line }
+    ensures { Answers result input.now (K.held sink.old) (K.held sink.new) (K.faults sink.old) (K.faults sink.new) }
+{
+    match not_yet_line(alloc, line) {
+        Ok(text) => {
+            write_alone(sink, text.as_slice());
+            Status::NotYet { line }
+        }
+        Err(NoMemory) => refuse(sink, Status::NoMemory),
+    }
+}
+
+fn write_session<K: Sink>(alloc: Global, sink: &mut K, input: &[u8]) -> Status
+    requires within { length input.now ≤ INPUT_LIMIT }
+    requires built { first_not_yet input.now ≡ None }
+    ensures { Answers result input.now (K.held sink.old) (K.held sink.new) (K.faults sink.old) (K.faults sink.new) }
+{
+    match end_text(alloc, 0, 0) {
+        Ok(text) => match write_all(sink, text.as_slice()) {
+            Ok(()) => Status::Done,
+            Err(SinkFault) => Status::SinkFault,
+        },
+        Err(NoMemory) => refuse(sink, Status::NoMemory),
+    }
+}
+
+/// Answers an input that was read to its end: its session's text, or the least line that isn't built yet.
+pub fn answer<K: Sink>(alloc: Global, sink: &mut K, input: &[u8]) -> Status
+    requires { length input.now ≤ INPUT_LIMIT }
+    ensures { Answers result input.now (K.held sink.old) (K.held sink.new) (K.faults sink.old) (K.faults sink.new) }
+{
+    if input.is_empty() {
+        write_session(alloc, sink, input)
+    } else {
+        refuse_line(alloc, sink, input, 0)
+    }
+}
