@@ -1,0 +1,6 @@
+pub mod Names
+pub mod Values
+pub mod Shapes
+pub mod Lawful
+pub mod Versions
+pub mod Check

@@ -1,0 +1,99 @@
+use crate::{Kind, Value};
+use lt_rec::Label;
+use std::marker::Model;
+
+/// A column of a lawful name: 1 to 64 of `a` to `z`, `0` to `9` and `_`, a letter first.
+#[derive(Debug, Drop)]
+pub struct Column {
+    name: Label,
+    kind: Kind,
+    default: Value,
+}
+
+impl Model for Column {
+    ghost use Rattle.std.specs.Prelude.{IsTrue};
+    ghost use Rattle.lt_schema.specs.Shapes.{ColumnShape};
+    ghost use Rattle.lt_schema.specs.Names.{is_name};
+
+    ghost Value = { ColumnShape };
+
+    ghost view = { λ c. record { name = c.name; kind = c.kind; default = c.default } };
+
+    ghost invariant = { λ c. IsTrue (is_name c.name) };
+}
+
+impl Column {
+    ghost use Rattle.std.specs.Prelude.{◌≡◌, IsTrue};
+    ghost use Rattle.lt_schema.specs.Names.{is_name};
+
+    /// A column with the value that rows written before it take.
+    pub fn new(name: Label, kind: Kind, default: Value) -> Column
+        requires { IsTrue (is_name name) }
+        ensures { result ≡ record { name = name; kind = kind; default = default } }
+    {
+        Column {
+            name,
+            kind,
+            default,
+        }
+    }
+
+    pub fn name(&self) -> &Label
+        ensures name { result.now ≡ self.now.name }
+        ensures lawful { IsTrue (is_name self.now.name) }
+    {
+        &self.name
+    }
+
+    pub fn kind(&self) -> Kind
+        ensures { result ≡ self.now.kind }
+    {
+        self.kind
+    }
+
+    pub fn default(&self) -> &Value
+        ensures { result.now ≡ self.now.default }
+    {
+        &self.default
+    }
+}
+
+/// Columns in order. Contracts see the list of them.
+#[derive(Debug, Drop)]
+pub struct Columns {
+    columns: Vec<Column>,
+}
+
+impl Model for Columns {
+    ghost use Rattle.std.specs.Prelude.{List};
+    ghost use Rattle.lt_schema.specs.Shapes.{ColumnShape};
+
+    ghost Value = { List ColumnShape };
+
+    ghost view = { λ c. c.columns.items };
+}
+
+impl Columns {
+    ghost use Rattle.std.specs.Prelude.{◌≡◌};
+
+    /// The same columns. Takes no memory.
+    pub fn from_vec(columns: Vec<Column>) -> Columns
+        ensures { result ≡ columns.items }
+    {
+        Columns { columns }
+    }
+
+    /// The columns given back. Takes no memory.
+    pub fn into_vec(self) -> Vec<Column>
+        ensures { result.items ≡ self }
+    {
+        let Columns { columns } = self;
+        columns
+    }
+
+    pub fn as_slice(&self) -> &[Column]
+        ensures { result.now ≡ self.now }
+    {
+        self.columns.as_slice()
+    }
+}

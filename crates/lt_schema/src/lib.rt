@@ -1,0 +1,20 @@
+//! What tables are made of: values, rows, columns, schemas and their changes.
+//! A row's key is its first values, of which the last is its timestamp in microseconds since the Unix epoch.
+#![tactic(auto)]
+
+mod change;
+mod column;
+mod kind;
+mod row;
+mod schema;
+mod value;
+
+pub use change::{AlterError, Change};
+pub use column::{Column, Columns};
+pub use kind::Kind;
+pub use row::{Row, RowFault, Rows};
+pub use schema::Schema;
+pub use value::Value;
+
+#[cfg(test)]
+mod tests;
