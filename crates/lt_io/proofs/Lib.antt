@@ -1,1 +1,4 @@
+pub mod Chains
+pub mod Moments
+mod OldOrWhole
 mod Pieces

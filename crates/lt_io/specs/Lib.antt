@@ -1,2 +1,7 @@
 pub mod Cause
+pub mod Clock
+pub mod Device
+pub mod Directory
 pub mod Memory
+pub mod Replacing
+pub mod Steps

@@ -97,3 +97,21 @@ fn writes_all_or_tells(rt: HostRuntime) -> Result<(), Fail> {
     assert!(rt; write_all(&mut WriterSink::new(io::sink()), b"gone").is_ok());
     Ok(())
 }
+
+#[test]
+fn clocks_show_their_moments(rt: HostRuntime) -> Result<(), Fail> {
+    let fixed = FixedClock { at: 7 };
+    assert_eq!(rt; (fixed.now(), fixed.now()), (7, 7), "a fixed clock");
+    let last = (1u64 << 62) - 1;
+    for (start, step, shown) in [
+        (5, 3, (5, 8, 11)),
+        (5, 0, (5, 5, 5)),
+        (last - 3, 2, (last - 3, last - 1, last)),
+        (1, last, (1, last, last)),
+    ] {
+        let clock = StepClock::new(start, step);
+        let (first, second, third) = (clock.now(), clock.now(), clock.now());
+        assert_eq!(rt; (first, second, third), shown, "from {start} by {step}");
+    }
+    Ok(())
+}

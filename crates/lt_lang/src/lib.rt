@@ -1,10 +1,24 @@
 //! The language of a session: what its lines ask, and the text of its replies.
+//! An input is cut into lines, a line is read exactly where it has the form of one, and each reply has one text.
 #![tactic(auto)]
 
 mod command;
+mod integers;
+mod laws;
+mod lines;
+mod parsing;
+mod printing;
 mod query;
 mod reply;
+mod values;
 
 pub use command::{Command, Line};
+pub use laws::{lawful_rows, one_line};
+pub use lines::next_line;
+pub use parsing::parse_line;
+pub use printing::{put_client, put_end, put_reply, reply_text};
 pub use query::{BoundFault, Edge, Query};
 pub use reply::Reply;
+
+#[cfg(test)]
+mod tests;

@@ -1,1 +1,3 @@
 mod ThreeWords
+pub mod OneClient
+pub mod Reading

@@ -1,3 +1,5 @@
 pub mod Words
 pub mod Status
+pub mod Session
+pub mod Answered
 pub mod Output

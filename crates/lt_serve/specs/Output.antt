@@ -1,35 +1,29 @@
 -- What a run reads and writes, by its status.
-use Rattle.std.specs.Prelude.{◌≡◌, ◌⊎◌, ◌<◌, ◌≤◌, ⊤, ℕ, List, [], ◌∷◌, ◌++◌, length, Option, Some, None, codes, decimal}
+use Rattle.std.specs.Prelude.{◌≡◌, ◌⊎◌, ◌<◌, ◌≤◌, ⊤, ℕ, List, length, Option}
 use Rattle.std.specs.Io.KnownBytes.{Appends, IsAtEnd}
 use Rattle.lt_io.specs.Cause.{Rose, AppendsFront}
 use Rattle.lt_io.specs.declared.reading.TheConstants.{INPUT_LIMIT}
-use Rattle.lt_serve.specs.Status.{line_of, refusal_text}
+use Rattle.lt_serve.specs.Status.{refusal_text}
+use Rattle.lt_serve.specs.Session.{IsBuilt, HasOtherForm, IsText}
 use Rattle.lt_serve.specs.declared.status.Status.{Status}
 use Rattle.lt_serve.specs.declared.status.Status.TheVariants.{Done, Usage, SourceFault, SinkFault, TooLong, NoMemory, NotYet}
 
--- the last line of a session: its next and its settled number
-abbrev pub end_line : ℕ → ℕ → List ℕ
-end_line next kept = line_of (codes "end next " ++ decimal next ++ codes " kept " ++ decimal kept)
-
--- the least line that has a form which isn't built yet: by now each line has
-abbrev pub first_not_yet : List ℕ → Option ℕ
-first_not_yet [] = None
-first_not_yet (byte ∷ bytes) = Some 0
-
--- the text of a session that was read and is done
-abbrev pub IsText : List ℕ → List ℕ → Type 0
-IsText input text = text ≡ end_line 0 0
-
 -- an input within the limit whose lines all have a form that is built
-abbrev pub IsSessionInput : List ℕ → Type 0
-IsSessionInput input = (length input ≤ INPUT_LIMIT) × (first_not_yet input ≡ None)
+pub record IsSessionInput (input : List ℕ) : Type 0 where
+  pub within : length input ≤ INPUT_LIMIT
+  pub built : IsBuilt input
+
+-- an input within the limit whose line of this number is the first that has another form
+pub record IsOtherInput (input : List ℕ) (line : ℕ) : Type 0 where
+  pub within : length input ≤ INPUT_LIMIT
+  pub other : HasOtherForm input line
 
 -- which input may end so, where it is told; the other statuses are not the input's matter
 abbrev pub MayEnd : Status → List ℕ → Type 0
 MayEnd Done input = IsSessionInput input
 MayEnd SinkFault input = IsSessionInput input
 MayEnd TooLong input = INPUT_LIMIT < length input
-MayEnd (NotYet line) input = (length input ≤ INPUT_LIMIT) × (first_not_yet input ≡ Some line)
+MayEnd (NotYet line) input = IsOtherInput input line
 MayEnd Usage input = ⊤
 MayEnd SourceFault input = ⊤
 MayEnd NoMemory input = ⊤

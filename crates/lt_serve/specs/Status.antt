@@ -1,5 +1,6 @@
 -- The numbers of the statuses, and the line that each refusal writes.
 use Rattle.std.specs.Prelude.{⊤, ℕ, List, [], ◌∷◌, ◌++◌, codes, decimal}
+use Rattle.lt_lang.specs.Texts.{line_of}
 use Rattle.lt_serve.specs.declared.status.Status.{Status}
 use Rattle.lt_serve.specs.declared.status.Status.TheVariants.{Done, Usage, SourceFault, SinkFault, TooLong, NoMemory, NotYet}
 
@@ -11,10 +12,6 @@ code_of SinkFault = 4
 code_of TooLong = 5
 code_of NoMemory = 11
 code_of (NotYet line) = 14
-
--- a line and its LF
-abbrev pub line_of : List ℕ → List ℕ
-line_of text = text ++ 10 ∷ []
 
 -- a run that is done, or whose sink failed, has no line of its own
 abbrev pub refusal_text : Status → List ℕ

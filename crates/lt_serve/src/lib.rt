@@ -1,7 +1,9 @@
 //! The top call: from the words and the source's bytes to the sink's bytes and a status.
 #![tactic(auto)]
 
+mod answered;
 mod output;
+mod session;
 mod status;
 mod top;
 mod words;

@@ -1,9 +1,12 @@
 //! What a run writes: the one line of a refusal, or the text of a session.
-ghost use Rattle.std.specs.Prelude.{◌≡◌, ◌≤◌, ⊤, Some, None, IfOk, length};
+ghost use Rattle.std.specs.Prelude.{◌≡◌, ◌≤◌, IfOk, length};
 ghost use Rattle.lt_serve.specs.Status.{HasFixedLine, refusal_text};
-ghost use Rattle.lt_serve.specs.Output.{Answers, WritesAlone, end_line, first_not_yet};
+ghost use Rattle.lt_serve.specs.Session.{HasOtherForm, IsText};
+ghost use Rattle.lt_serve.specs.Output.{Answers, WritesAlone};
 
 use crate::Status;
+use crate::answered::Answered;
+use crate::session::session;
 use itoa::Buffer;
 use lt_io::{INPUT_LIMIT, Sink, SinkFault, write_all};
 use lt_rec::NoMemory;
@@ -52,21 +55,9 @@ fn not_yet_line(alloc: Global, line: u64) -> Result<Vec<u8>, NoMemory>
     Ok(text)
 }
 
-fn end_text(alloc: Global, next: u64, kept: u64) -> Result<Vec<u8>, NoMemory>
-    ensures { IfOk result (λ text. text.items ≡ end_line next kept) }
-{
-    let mut digits = Buffer::new();
-    let mut text = Vec::from_slice(alloc, b"end next ")?;
-    text.extend_from_slice(digits.format(next).as_bytes())?;
-    text.extend_from_slice(b" kept ")?;
-    text.extend_from_slice(digits.format(kept).as_bytes())?;
-    text.push(b'\n')?;
-    Ok(text)
-}
-
 fn refuse_line<K: Sink>(alloc: Global, sink: &mut K, input: &[u8], line: u64) -> Status
     requires within { length input.now ≤ INPUT_LIMIT }
-    requires first { first_not_yet input.now ≡ Some line }
+    requires other { HasOtherForm input.now line }
     ensures { Answers result input.now (K.held sink.old) (K.held sink.new) (K.faults sink.old) (K.faults sink.new) }
 {
     match not_yet_line(alloc, line) {
@@ -78,17 +69,14 @@ fn refuse_line<K: Sink>(alloc: Global, sink: &mut K, input: &[u8], line: u64) ->
     }
 }
 
-fn write_session<K: Sink>(alloc: Global, sink: &mut K, input: &[u8]) -> Status
+fn write_session<K: Sink>(sink: &mut K, input: &[u8], text: &[u8]) -> Status
     requires within { length input.now ≤ INPUT_LIMIT }
-    requires built { first_not_yet input.now ≡ None }
+    requires text { IsText input.now text.now }
     ensures { Answers result input.now (K.held sink.old) (K.held sink.new) (K.faults sink.old) (K.faults sink.new) }
 {
-    match end_text(alloc, 0, 0) {
-        Ok(text) => match write_all(sink, text.as_slice()) {
-            Ok(()) => Status::Done,
-            Err(SinkFault) => Status::SinkFault,
-        },
-        Err(NoMemory) => refuse(sink, Status::NoMemory),
+    match write_all(sink, text) {
+        Ok(()) => Status::Done,
+        Err(SinkFault) => Status::SinkFault,
     }
 }
 
@@ -97,9 +85,9 @@ pub fn answer<K: Sink>(alloc: Global, sink: &mut K, input: &[u8]) -> Status
     requires { length input.now ≤ INPUT_LIMIT }
     ensures { Answers result input.now (K.held sink.old) (K.held sink.new) (K.faults sink.old) (K.faults sink.new) }
 {
-    if input.is_empty() {
-        write_session(alloc, sink, input)
-    } else {
-        refuse_line(alloc, sink, input, 0)
+    match session(alloc, input) {
+        Ok(Answered::Text(text)) => write_session(sink, input, text.as_slice()),
+        Ok(Answered::Other { line }) => refuse_line(alloc, sink, input, line),
+        Err(NoMemory) => refuse(sink, Status::NoMemory),
     }
 }

@@ -1,6 +1,8 @@
 use super::*;
+use itoa::Buffer;
 use lt_io::{INPUT_LIMIT, MemSink, MemSource, Source, SourceFault};
 use lt_rec::Octets;
+use memchr::memmem;
 use std::alloc::{AllocError, Global};
 use std::test::Fail;
 
@@ -33,27 +35,96 @@ impl Source for Blank {
 }
 
 #[test]
-fn words_and_inputs(rt: HostRuntime) -> Result<(), Fail> {
+fn words_are_a_session_or_usage(rt: HostRuntime) -> Result<(), Fail> {
     let usage =
         "usage: create DIR SCHEMA [TTL] | run DIR [--leave] | make SEED CLIENTS ROWS | drill DIR SEED CLIENTS ROWS\n";
-    let not_yet = Status::NotYet { line: 0 };
-    let table: [(&[&str], &[u8], Status, &str); 8] = [
-        (&SESSION, b"", Status::Done, "end next 0 kept 0\n"),
-        (&SESSION, b"hello\n", not_yet, "error: not yet at line 0\n"),
-        (&SESSION, b"\n", not_yet, "error: not yet at line 0\n"),
-        (&[], b"", Status::Usage, usage),
-        (&["run"], b"", Status::Usage, usage),
-        (&["run", "."], b"", Status::Usage, usage),
-        (&["run", ".", "--leave", "x"], b"", Status::Usage, usage),
-        (&["sing", ".", "--leave"], b"", Status::Usage, usage),
+    let table: [(&[&str], Status, &str); 6] = [
+        (&SESSION, Status::Done, "end next 0 kept 0\n"),
+        (&[], Status::Usage, usage),
+        (&["run"], Status::Usage, usage),
+        (&["run", "."], Status::Usage, usage),
+        (&["run", ".", "--leave", "x"], Status::Usage, usage),
+        (&["sing", ".", "--leave"], Status::Usage, usage),
     ];
-    for (given, input, wanted, text) in table {
+    for (given, wanted, text) in table {
         let words = words(rt.alloc(), given)?;
-        let mut source = MemSource::new(rt.alloc(), Octets::from_slice(rt.alloc(), input)?, &[])?;
+        let mut source = MemSource::new(rt.alloc(), Octets::from_slice(rt.alloc(), b"")?, &[])?;
         let mut sink = MemSink::new(rt.alloc(), &[])?;
         let status = run(rt.alloc(), &words, &mut source, &mut sink);
         assert_eq!(rt; status, wanted, "the words {given:?}");
         assert_eq!(rt; sink.bytes(), text.as_bytes(), "the words {given:?}");
+    }
+    Ok(())
+}
+
+#[test]
+fn sessions_of_one_client(rt: HostRuntime) -> Result<(), Fail> {
+    let table: [(&str, &str); 9] = [
+        (
+            "a: @1500000000000000 insert \"x\" 1 1500000000000000 10\na: scan\n",
+            "client a\nok 0\nrows 1 all place 1 since 0\nrow \"x\" 1 1500000000000000 10\nend next 1 kept 0\n",
+        ),
+        (
+            "a: @1 insert \"x\" 1 1 10\na: @1 insert \"x\" 1 1 10",
+            "client a\nok 0\npresent 0\nend next 1 kept 0\n",
+        ),
+        (
+            "a: scan\r\n",
+            "client a\nrows 0 all place 0 since 0\nend next 0 kept 0\n",
+        ),
+        (
+            "a: @0 insert \"xa\" 1 1 0\na: @0 insert \"x\" 2147483647 1 0\na: @0 insert \"x\" -1 2 0\na: @0 insert \"x\" -1 1 0\na: @0 insert \"x\" -2147483648 9 -9223372036854775808\na: scan",
+            "client a\nok 0\nok 1\nok 2\nok 3\nok 4\nrows 5 all place 5 since 0\nrow \"x\" -2147483648 9 -9223372036854775808\nrow \"x\" -1 1 0\nrow \"x\" -1 2 0\nrow \"x\" 2147483647 1 0\nrow \"xa\" 1 1 0\nend next 5 kept 0\n",
+        ),
+        (
+            "a: @4611686018427387903 insert \"\" 0 4611686018427387903 9223372036854775807\na: scan\n",
+            "client a\nok 0\nrows 1 all place 1 since 0\nrow \"\" 0 4611686018427387903 9223372036854775807\nend next 1 kept 0\n",
+        ),
+        ("b: scan", "error: not yet at line 0\n"),
+        ("a: scan\n\na: scan", "error: not yet at line 1\n"),
+        (
+            "a: scan\na: @1 insert \"x\" 2147483648 1 1\n",
+            "error: not yet at line 1\n",
+        ),
+        ("a: scan\n#\n", "error: not yet at line 1\n"),
+    ];
+    let words = words(rt.alloc(), &SESSION)?;
+    for (input, text) in table {
+        let bytes = Octets::from_slice(rt.alloc(), input.as_bytes())?;
+        let mut source = MemSource::new(rt.alloc(), bytes, &[])?;
+        let mut sink = MemSink::new(rt.alloc(), &[])?;
+        run(rt.alloc(), &words, &mut source, &mut sink);
+        assert_eq!(rt; sink.bytes(), text.as_bytes(), "the input {input:?}");
+    }
+    Ok(())
+}
+
+fn put_insert(out: &mut Vec<u8>, at: usize) -> Result<(), AllocError> {
+    out.extend_from_slice(b"a: @1 insert \"n\" 0 ")?;
+    out.extend_from_slice(Buffer::new().format(at).as_bytes())?;
+    out.extend_from_slice(b" 0\n")
+}
+
+#[test]
+fn a_scan_shows_a_thousand_rows(rt: HostRuntime) -> Result<(), Fail> {
+    let words = words(rt.alloc(), &SESSION)?;
+    for (rows, wanted) in [
+        (1_000, "\nrows 1000 all place 1000 since 0\n"),
+        (1_001, "\nrows 1000 more place 1001 since 0\n"),
+    ] {
+        let mut input = Vec::new(rt.alloc());
+        for at in 0..rows {
+            put_insert(&mut input, at)?;
+        }
+        input.extend_from_slice(b"a: scan\n")?;
+        let mut source = MemSource::new(rt.alloc(), Octets::from_vec(input), &[])?;
+        let mut sink = MemSink::new(rt.alloc(), &[])?;
+        let status = run(rt.alloc(), &words, &mut source, &mut sink);
+        assert_eq!(rt; status, Status::Done, "{rows} rows");
+        assert!(rt;
+            memmem::find(sink.bytes(), wanted.as_bytes()).is_some(),
+            "{rows} rows"
+        );
     }
     Ok(())
 }

@@ -1,0 +1,5 @@
+mod Cutting
+mod Digits
+mod Taken
+mod Spelled
+mod LineParts

@@ -1,0 +1,8 @@
+use Rattle.std.proofs.Common.{◌≡◌, ◌++◌, take}
+use Rattle.std.specs.List.{flat_map}
+use Rattle.lt_lang.specs.Texts.{hex_byte}
+use Rattle.lt_lang.proofs.values.put_bytes.Given as goal
+
+-- so far the texts of the first ones stand at the end
+abbrev pub invariant-loop-byte : goal.invariant-loop-byte
+invariant-loop-byte l = l.out.items ≡ l.fn.out.items ++ flat_map hex_byte (take l.byte-index l.bytes)

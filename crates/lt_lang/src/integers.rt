@@ -1,0 +1,107 @@
+//! Integers at the front of a line: an optional -, and 1 to 19 digits.
+ghost use Rattle.std.specs.Prelude.{◌≡◌, ◌^◌, ◌≤◌, neg_ℤ, pos, SomeIff};
+ghost use Rattle.lt_lang.specs.Reading.{Finds, count_at, device_at, digit_at, digits_at, integer_at, moment_at, negated_at, time_at, unsigned_at};
+
+const MOMENTS: u64 = 1 << 62;
+
+fn digit_at(bytes: &[u8]) -> Option<(u8, &[u8])>
+    ensures { Finds (λ x. (x.0, x.1.now)) result (digit_at bytes.now) }
+{
+    match bytes.split_first() {
+        Some((byte, rest)) if *byte >= b'0' && *byte <= b'9' => Some((*byte - b'0', rest)),
+        _ => None,
+    }
+}
+
+fn digits_at(bytes: &[u8]) -> (u64, &[u8])
+    ensures { (result.0, result.1.now) ≡ digits_at 19 0 bytes.now }
+{
+    let mut number = 0;
+    let mut rest = bytes;
+    for _ in 0..19u32 {
+        let Some((digit, after)) = digit_at(rest) else {
+            break;
+        };
+        number = 10 * number + digit as u64;
+        rest = after;
+    }
+    (number, rest)
+}
+
+#[tactic(auto, unfolding(crate::specs::Reading::count_at))]
+fn count_at(bytes: &[u8]) -> Option<(u64, &[u8])>
+    ensures { Finds (λ x. (x.0, x.1.now)) result (count_at bytes.now) }
+{
+    digit_at(bytes)?;
+    Some(digits_at(bytes))
+}
+
+#[tactic(auto, unfolding(crate::specs::Reading::moment_at))]
+pub fn moment_at(bytes: &[u8]) -> Option<(u64, &[u8])>
+    ensures { Finds (λ x. (x.0, x.1.now)) result (moment_at bytes.now) }
+{
+    let (moment, rest) = count_at(bytes)?;
+    if moment < MOMENTS {
+        Some((moment, rest))
+    } else {
+        None
+    }
+}
+
+fn negated(number: u64) -> Option<i64>
+    ensures { SomeIff result (number ≤ 2 ^ 63) (neg_ℤ (pos number)) }
+{
+    0i64.checked_sub_unsigned(number)
+}
+
+#[tactic(auto, unfolding(crate::specs::Reading::negated_at))]
+fn negated_at(bytes: &[u8]) -> Option<(i64, &[u8])>
+    ensures { Finds (λ x. (x.0, x.1.now)) result (negated_at bytes.now) }
+{
+    let (number, rest) = count_at(bytes)?;
+    let integer = negated(number)?;
+    Some((integer, rest))
+}
+
+#[tactic(auto, unfolding(crate::specs::Reading::unsigned_at))]
+fn unsigned_at(bytes: &[u8]) -> Option<(i64, &[u8])>
+    ensures { Finds (λ x. (x.0, x.1.now)) result (unsigned_at bytes.now) }
+{
+    let (number, rest) = count_at(bytes)?;
+    let integer = i64::try_from(number).ok()?;
+    Some((integer, rest))
+}
+
+#[tactic(auto, unfolding(crate::specs::Reading::integer_at))]
+pub fn integer_at(bytes: &[u8]) -> Option<(i64, &[u8])>
+    ensures { Finds (λ x. (x.0, x.1.now)) result (integer_at bytes.now) }
+{
+    match bytes.split_first() {
+        Some((b'-', digits)) => negated_at(digits),
+        _ => unsigned_at(bytes),
+    }
+}
+
+#[tactic(auto, unfolding(crate::specs::Reading::device_at))]
+pub fn device_at(bytes: &[u8]) -> Option<(i64, &[u8])>
+    ensures { Finds (λ x. (x.0, x.1.now)) result (device_at bytes.now) }
+{
+    let (device, rest) = integer_at(bytes)?;
+    if device >= i32::MIN as i64 && device <= i32::MAX as i64 {
+        Some((device, rest))
+    } else {
+        None
+    }
+}
+
+#[tactic(auto, unfolding(crate::specs::Reading::time_at))]
+pub fn time_at(bytes: &[u8]) -> Option<(i64, &[u8])>
+    ensures { Finds (λ x. (x.0, x.1.now)) result (time_at bytes.now) }
+{
+    let (time, rest) = integer_at(bytes)?;
+    if time >= 0 && time < MOMENTS as i64 {
+        Some((time, rest))
+    } else {
+        None
+    }
+}

@@ -1,0 +1,170 @@
+//! The texts of replies, of the line that begins a client's block, and of a session's last line.
+ghost use Rattle.std.specs.Prelude.{◌≡◌, ◌∷◌, ◌++◌, [], IfOk, OnOk, codes, decimal, length};
+ghost use Rattle.std.specs.List.{flat_map};
+ghost use Rattle.lt_lang.specs.Texts.{bound_fault_text, client_line, end_line, latest_text, line_of, place_text, refusal_text, reply_text_of, row_fault_text, row_line, rows_text};
+
+use crate::values::{put_number, put_row};
+use crate::{BoundFault, Reply};
+use lt_rec::{Label, NoMemory, Octets};
+use lt_schema::{AlterError, Row, RowFault, Rows};
+use std::alloc::Global;
+
+fn put_words(out: &mut Vec<u8>, words: &[u8]) -> Result<(), NoMemory>
+    ensures { OnOk result (out.new.items ≡ out.old.items ++ line_of words.now) }
+{
+    out.extend_from_slice(words)?;
+    out.push(b'\n')?;
+    Ok(())
+}
+
+fn put_one(out: &mut Vec<u8>, words: &[u8], number: u64) -> Result<(), NoMemory>
+    ensures { OnOk result (out.new.items ≡ out.old.items ++ line_of (words.now ++ decimal number)) }
+{
+    out.extend_from_slice(words)?;
+    put_number(out, number)?;
+    out.push(b'\n')?;
+    Ok(())
+}
+
+fn put_two(
+    out: &mut Vec<u8>,
+    words: &[u8],
+    first: u64,
+    between: &[u8],
+    second: u64,
+) -> Result<(), NoMemory>
+    ensures { OnOk result (out.new.items ≡ out.old.items ++ line_of (words.now ++ decimal first ++ between.now ++ decimal second)) }
+{
+    out.extend_from_slice(words)?;
+    put_number(out, first)?;
+    out.extend_from_slice(between)?;
+    put_number(out, second)?;
+    out.push(b'\n')?;
+    Ok(())
+}
+
+fn put_row_fault(out: &mut Vec<u8>, fault: RowFault) -> Result<(), NoMemory>
+    ensures { OnOk result (out.new.items ≡ out.old.items ++ line_of (row_fault_text fault)) }
+{
+    match fault {
+        RowFault::Arity { want, got } => put_two(out, b"bad row arity ", want as u64, b" ", got),
+        RowFault::WrongKind { column } => put_one(out, b"bad row kind ", column as u64),
+        RowFault::KeyLong { len } => put_one(out, b"bad row key ", len),
+        RowFault::BodyLong { len } => put_one(out, b"bad row body ", len),
+    }
+}
+
+fn put_bound_fault(out: &mut Vec<u8>, fault: BoundFault) -> Result<(), NoMemory>
+    ensures { OnOk result (out.new.items ≡ out.old.items ++ line_of (bound_fault_text fault)) }
+{
+    match fault {
+        BoundFault::Count => put_words(out, b"bad bound count"),
+        BoundFault::WrongKind { column } => put_one(out, b"bad bound kind ", column as u64),
+    }
+}
+
+fn put_refusal(out: &mut Vec<u8>, why: AlterError) -> Result<(), NoMemory>
+    ensures { OnOk result (out.new.items ≡ out.old.items ++ line_of (refusal_text why)) }
+{
+    match why {
+        AlterError::Exists => put_words(out, b"exists"),
+        AlterError::TooMany => put_words(out, b"too many columns"),
+        AlterError::BadDefault => put_words(out, b"bad default"),
+        AlterError::NoColumn => put_words(out, b"no column"),
+        AlterError::NotInt32 => put_words(out, b"not int32"),
+    }
+}
+
+fn put_each(out: &mut Vec<u8>, rows: &[Row]) -> Result<(), NoMemory>
+    ensures { OnOk result (out.new.items ≡ out.old.items ++ flat_map row_line rows.now) }
+{
+    for row in rows {
+        put_row(out, row)?;
+    }
+    Ok(())
+}
+
+fn put_rows(
+    out: &mut Vec<u8>,
+    rows: &[Row],
+    more: bool,
+    place: u64,
+    since: u64,
+) -> Result<(), NoMemory>
+    ensures { OnOk result (out.new.items ≡ out.old.items ++ rows_text rows.now more place since) }
+{
+    let words: &[u8] = if more {
+        b" more place "
+    } else {
+        b" all place "
+    };
+    out.extend_from_slice(b"rows ")?;
+    put_number(out, rows.len() as u64)?;
+    put_two(out, words, place, b" since ", since)?;
+    put_each(out, rows)
+}
+
+fn put_latest(out: &mut Vec<u8>, row: &Option<Row>, place: u64, since: u64) -> Result<(), NoMemory>
+    ensures { OnOk result (out.new.items ≡ out.old.items ++ latest_text row.now place since) }
+{
+    match row {
+        None => put_two(out, b"latest none place ", place, b" since ", since),
+        Some(row) => {
+            put_two(out, b"latest one place ", place, b" since ", since)?;
+            put_row(out, row)
+        }
+    }
+}
+
+/// Appends the lines of a reply. Where memory runs out, a front of them may be there.
+pub fn put_reply(out: &mut Vec<u8>, reply: &Reply) -> Result<(), NoMemory>
+    ensures { OnOk result (out.new.items ≡ out.old.items ++ reply_text_of reply.now) }
+{
+    match reply {
+        Reply::BadLine { at } => put_one(out, b"bad line at ", *at),
+        Reply::Inserted { seq } => put_one(out, b"ok ", *seq),
+        Reply::BadRow { fault } => put_row_fault(out, *fault),
+        Reply::TooOld { since } => put_one(out, b"too old ", *since),
+        Reply::Present { seq } => put_one(out, b"present ", *seq),
+        Reply::Spent => put_words(out, b"spent"),
+        Reply::Rows {
+            rows,
+            more,
+            place,
+            since,
+        } => put_rows(out, rows.as_slice(), *more, *place, *since),
+        Reply::Latest { row, place, since } => put_latest(out, row, *place, *since),
+        Reply::BadLimit { given } => put_one(out, b"bad limit ", *given),
+        Reply::BadBound { fault } => put_bound_fault(out, *fault),
+        Reply::NoTablet { id } => put_one(out, b"no tablet ", *id),
+        Reply::Version { version } => put_one(out, b"version ", *version),
+        Reply::Refused { why } => put_refusal(out, *why),
+        Reply::Damaged { file, at } => put_two(out, b"damaged ", *file, b" ", *at),
+        Reply::Fault => put_words(out, b"fault"),
+        Reply::NoMemory => put_words(out, b"no memory"),
+    }
+}
+
+/// The lines of a reply.
+pub fn reply_text(alloc: Global, reply: &Reply) -> Result<Octets, NoMemory>
+    ensures { IfOk result (λ text. text ≡ reply_text_of reply.now) }
+{
+    let mut out = Vec::new(alloc);
+    put_reply(&mut out, reply)?;
+    Ok(Octets::from_vec(out))
+}
+
+/// Appends the line that begins a client's block.
+pub fn put_client(out: &mut Vec<u8>, name: &Label) -> Result<(), NoMemory>
+    ensures { OnOk result (out.new.items ≡ out.old.items ++ client_line name.now) }
+{
+    out.extend_from_slice(b"client ")?;
+    put_words(out, name.as_slice())
+}
+
+/// Appends a session's last line, with its next and its settled number.
+pub fn put_end(out: &mut Vec<u8>, next: u64, kept: u64) -> Result<(), NoMemory>
+    ensures { OnOk result (out.new.items ≡ out.old.items ++ end_line next kept) }
+{
+    put_two(out, b"end next ", next, b" kept ", kept)
+}

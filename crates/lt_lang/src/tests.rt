@@ -1,0 +1,354 @@
+use super::*;
+use lt_rec::{Label, Octets};
+use lt_schema::{AlterError, Row, RowFault, Rows, Value};
+use std::alloc::Global;
+use std::test::Fail;
+
+fn is_insert(line: &Line, moment: u64, net: &str, numbers: [i64; 3]) -> bool {
+    let Line::Command {
+        client,
+        moment: Some(at),
+        command: Command::Insert { row },
+    } = line
+    else {
+        return false;
+    };
+    let [
+        Value::Text(text),
+        Value::Int(device),
+        Value::Int(time),
+        Value::Int(amount),
+    ] = row.as_slice()
+    else {
+        return false;
+    };
+    client.as_text() == "a"
+        && *at == moment
+        && text.as_text() == net
+        && [*device, *time, *amount] == numbers
+}
+
+fn is_whole_scan(line: &Line) -> bool {
+    let Line::Command {
+        client,
+        moment: None,
+        command: Command::Scan { query },
+    } = line
+    else {
+        return false;
+    };
+    client.as_text() == "a"
+        && query.lo.is_none()
+        && query.hi.is_none()
+        && (query.from, query.to, query.down, query.limit) == (0, 4611686018427387903, false, 1000)
+}
+
+#[test]
+fn lines_end_with_lf_and_lose_one_cr(rt: HostRuntime) {
+    for (input, line, rest) in [
+        ("a\nb", "a", "b"),
+        ("a\r\nb", "a", "b"),
+        ("a\r\r\nb", "a\r", "b"),
+        ("a\rb\n", "a\rb", ""),
+        ("\n\n", "", "\n"),
+        ("\r\n", "", ""),
+        ("a\r", "a\r", ""),
+        ("\r", "\r", ""),
+        ("a", "a", ""),
+    ] {
+        assert_eq!(rt;
+            next_line(input.as_bytes()),
+            Some((line.as_bytes(), rest.as_bytes())),
+            "the first line of {input:?}"
+        );
+    }
+    assert_eq!(rt; next_line(b""), None, "no input");
+}
+
+static INSERTS: [(&str, u64, &str, [i64; 3]); 5] = [
+    (
+        "a: @1500000000000000 insert \"x\" 1 1500000000000000 10",
+        1500000000000000,
+        "x",
+        [1, 1500000000000000, 10],
+    ),
+    ("a: @0 insert \"\" -0 0 -0", 0, "", [0, 0, 0]),
+    (
+        "a: @4611686018427387903 insert \" ~#!\" 2147483647 4611686018427387903 9223372036854775807",
+        4611686018427387903,
+        " ~#!",
+        [2147483647, 4611686018427387903, 9223372036854775807],
+    ),
+    (
+        "a: @0000000000000000007 insert \"a: scan\" -2147483648 007 -9223372036854775808",
+        7,
+        "a: scan",
+        [-2147483648, 7, -9223372036854775808],
+    ),
+    (
+        "a: @1 insert \"0123456789012345678901234567890123456789012345678901234567890123\" 1 2 3",
+        1,
+        "0123456789012345678901234567890123456789012345678901234567890123",
+        [1, 2, 3],
+    ),
+];
+
+#[test]
+fn inserts_are_read_with_their_numbers(rt: HostRuntime) -> Result<(), Fail> {
+    for (line, moment, net, numbers) in INSERTS.iter() {
+        let read = parse_line(rt.alloc(), line.as_bytes())?;
+        let same = read
+            .as_ref()
+            .is_some_and(|found| is_insert(found, *moment, net, *numbers));
+        assert!(rt; same, "{line:?} gave {read:?}");
+    }
+    Ok(())
+}
+
+static OTHER_FORMS: [&str; 37] = [
+    "",
+    "#",
+    "a:scan",
+    "a: scan ",
+    " a: scan",
+    "a:  scan",
+    "b: scan",
+    "a: scan\r",
+    "a: @1 scan",
+    "a: insert \"x\" 1 2 3",
+    "a: @ insert \"x\" 1 2 3",
+    "a: @4611686018427387904 insert \"x\" 1 2 3",
+    "a: @00000000000000000001 insert \"x\" 1 2 3",
+    "a: @-1 insert \"x\" 1 2 3",
+    "a: @1  insert \"x\" 1 2 3",
+    "a: @1 insert x 1 2 3",
+    "a: @1 insert \"x 1 2 3",
+    "a: @1 insert \"x\"1 2 3",
+    "a: @1 insert \"x\\\"\" 1 2 3",
+    "a: @1 insert \"\u{7f}\" 1 2 3",
+    "a: @1 insert \"\u{1f}\" 1 2 3",
+    "a: @1 insert \"\u{e9}\" 1 2 3",
+    "a: @1 insert \"x\" 2147483648 2 3",
+    "a: @1 insert \"x\" -2147483649 2 3",
+    "a: @1 insert \"x\" +1 2 3",
+    "a: @1 insert \"x\" - 2 3",
+    "a: @1 insert \"x\" 1 -1 3",
+    "a: @1 insert \"x\" 1 4611686018427387904 3",
+    "a: @1 insert \"x\" 1 2 9223372036854775808",
+    "a: @1 insert \"x\" 1 2 -9223372036854775809",
+    "a: @1 insert \"x\" 1 2 00000000000000000001",
+    "a: @1 insert \"x\" 1 2",
+    "a: @1 insert \"x\" 1 2 ",
+    "a: @1 insert \"x\" 1 2 3 ",
+    "a: @1 insert \"x\" 1 2 3\r",
+    "a: @1 insert \"x\" 1 2 3 4",
+    "a: @1 insert \"01234567890123456789012345678901234567890123456789012345678901234\" 1 2 3",
+];
+
+#[test]
+fn other_forms_are_no_lines(rt: HostRuntime) -> Result<(), Fail> {
+    let read = parse_line(rt.alloc(), b"a: scan")?;
+    assert!(rt;
+        read.as_ref().is_some_and(|found| is_whole_scan(found)),
+        "the scan gave {read:?}"
+    );
+    for line in OTHER_FORMS.iter() {
+        let line = *line;
+        let read = parse_line(rt.alloc(), line.as_bytes())?;
+        assert!(rt; read.is_none(), "{line:?} gave {read:?}");
+    }
+    one_line();
+    lawful_rows();
+    Ok(())
+}
+
+const ONE_ROW: &str =
+    "rows 1 more place 7 since 3\nrow \"a\\\"b\\\\c\\x0a\\x7f\u{e9}\" 0x00a9ff -9223372036854775808 0\n";
+
+const LATEST_ROW: &str =
+    "latest one place 1 since 2\nrow \"a\\\"b\\\\c\\x0a\\x7f\u{e9}\" 0x00a9ff -9223372036854775808 0\n";
+
+fn row(alloc: Global) -> Result<Row, Fail> {
+    let text = Label::copy_of(alloc, "a\"b\\c\n\u{7f}\u{e9}")?;
+    let bytes = Octets::from_slice(alloc, &[0, 0xa9, 0xff])?;
+    let values = vec![in alloc;
+        Value::Text(text),
+        Value::Blob(bytes),
+        Value::Int(-9223372036854775808),
+        Value::Int(0),
+    ]?;
+    Ok(Row::from_vec(values))
+}
+
+#[test]
+fn rows_are_printed_value_by_value(rt: HostRuntime) -> Result<(), Fail> {
+    let mut rows = Vec::new(rt.alloc());
+    rows.push(row(rt.alloc())?)?;
+    let shown = Reply::Rows {
+        rows: Rows::from_vec(rows),
+        more: true,
+        place: 7,
+        since: 3,
+    };
+    let text = reply_text(rt.alloc(), &shown)?;
+    assert_eq!(rt; text.as_slice(), ONE_ROW.as_bytes(), "one row and more");
+    Ok(())
+}
+
+#[test]
+fn answers_may_have_no_row(rt: HostRuntime) -> Result<(), Fail> {
+    let rows = Rows::from_vec(Vec::new(rt.alloc()));
+    let none = Reply::Rows {
+        rows,
+        more: false,
+        place: 0,
+        since: 0,
+    };
+    let text = reply_text(rt.alloc(), &none)?;
+    assert_eq!(rt;
+        text.as_slice(),
+        b"rows 0 all place 0 since 0\n".as_slice(),
+        "no rows"
+    );
+    let none = Reply::Latest {
+        row: None,
+        place: 1,
+        since: 2,
+    };
+    let text = reply_text(rt.alloc(), &none)?;
+    assert_eq!(rt;
+        text.as_slice(),
+        b"latest none place 1 since 2\n".as_slice(),
+        "no latest row"
+    );
+    Ok(())
+}
+
+#[test]
+fn a_latest_row_is_one_line(rt: HostRuntime) -> Result<(), Fail> {
+    let latest = Reply::Latest {
+        row: Some(row(rt.alloc())?),
+        place: 1,
+        since: 2,
+    };
+    let text = reply_text(rt.alloc(), &latest)?;
+    assert_eq!(rt; text.as_slice(), LATEST_ROW.as_bytes(), "a latest row");
+    Ok(())
+}
+
+#[test]
+fn replies_are_lines(rt: HostRuntime) -> Result<(), Fail> {
+    for (reply, wanted) in [
+        (Reply::BadLine { at: 12 }, "bad line at 12\n"),
+        (
+            Reply::Inserted {
+                seq: 4611686018427387903,
+            },
+            "ok 4611686018427387903\n",
+        ),
+        (Reply::TooOld { since: 5 }, "too old 5\n"),
+        (Reply::Present { seq: 0 }, "present 0\n"),
+        (Reply::Spent, "spent\n"),
+        (Reply::BadLimit { given: 10001 }, "bad limit 10001\n"),
+        (Reply::NoTablet { id: 9 }, "no tablet 9\n"),
+        (Reply::Version { version: 1 }, "version 1\n"),
+        (Reply::Damaged { file: 1, at: 210 }, "damaged 1 210\n"),
+        (Reply::Fault, "fault\n"),
+        (Reply::NoMemory, "no memory\n"),
+    ] {
+        let text = reply_text(rt.alloc(), &reply)?;
+        assert_eq!(rt; text.as_slice(), wanted.as_bytes(), "the text of {reply:?}");
+    }
+    Ok(())
+}
+
+#[test]
+fn refusals_are_lines(rt: HostRuntime) -> Result<(), Fail> {
+    for (reply, wanted) in [
+        (
+            Reply::BadRow {
+                fault: RowFault::Arity { want: 4, got: 5 },
+            },
+            "bad row arity 4 5\n",
+        ),
+        (
+            Reply::BadRow {
+                fault: RowFault::WrongKind { column: 2 },
+            },
+            "bad row kind 2\n",
+        ),
+        (
+            Reply::BadRow {
+                fault: RowFault::KeyLong { len: 4097 },
+            },
+            "bad row key 4097\n",
+        ),
+        (
+            Reply::BadRow {
+                fault: RowFault::BodyLong { len: 60001 },
+            },
+            "bad row body 60001\n",
+        ),
+        (
+            Reply::BadBound {
+                fault: BoundFault::Count,
+            },
+            "bad bound count\n",
+        ),
+        (
+            Reply::BadBound {
+                fault: BoundFault::WrongKind { column: 1 },
+            },
+            "bad bound kind 1\n",
+        ),
+        (
+            Reply::Refused {
+                why: AlterError::Exists,
+            },
+            "exists\n",
+        ),
+        (
+            Reply::Refused {
+                why: AlterError::TooMany,
+            },
+            "too many columns\n",
+        ),
+        (
+            Reply::Refused {
+                why: AlterError::BadDefault,
+            },
+            "bad default\n",
+        ),
+        (
+            Reply::Refused {
+                why: AlterError::NoColumn,
+            },
+            "no column\n",
+        ),
+        (
+            Reply::Refused {
+                why: AlterError::NotInt32,
+            },
+            "not int32\n",
+        ),
+    ] {
+        let text = reply_text(rt.alloc(), &reply)?;
+        assert_eq!(rt; text.as_slice(), wanted.as_bytes(), "the text of {reply:?}");
+    }
+    Ok(())
+}
+
+#[test]
+fn a_block_begins_with_its_client(rt: HostRuntime) -> Result<(), Fail> {
+    let mut out = Vec::new(rt.alloc());
+    put_client(&mut out, &Label::copy_of(rt.alloc(), "a")?)?;
+    put_reply(&mut out, &Reply::Inserted { seq: 0 })?;
+    put_reply(&mut out, &Reply::Present { seq: 0 })?;
+    put_end(&mut out, 1, 0)?;
+    assert_eq!(rt;
+        out.as_slice(),
+        b"client a\nok 0\npresent 0\nend next 1 kept 0\n".as_slice(),
+        "a block and the last line"
+    );
+    Ok(())
+}

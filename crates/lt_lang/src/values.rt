@@ -1,0 +1,114 @@
+//! The text of a row: each value after one space.
+ghost use Rattle.std.specs.Prelude.{◌≡◌, ◌<◌, ◌++◌, OnOk, decimal};
+ghost use Rattle.std.specs.List.{flat_map};
+ghost use Rattle.std.specs.Fmt.{signed_decimal};
+ghost use Rattle.lt_lang.specs.Texts.{hex_byte, hex_digit, quoted_byte, row_line, spaced_value, value_text};
+
+use itoa::Buffer;
+use lt_rec::NoMemory;
+use lt_schema::{Row, Value};
+
+/// Appends a number's decimal digits.
+pub fn put_number(out: &mut Vec<u8>, number: u64) -> Result<(), NoMemory>
+    ensures { OnOk result (out.new.items ≡ out.old.items ++ decimal number) }
+{
+    let mut digits = Buffer::new();
+    out.extend_from_slice(digits.format(number).as_bytes())?;
+    Ok(())
+}
+
+fn put_integer(out: &mut Vec<u8>, integer: i64) -> Result<(), NoMemory>
+    ensures { OnOk result (out.new.items ≡ out.old.items ++ signed_decimal integer) }
+{
+    let mut digits = Buffer::new();
+    out.extend_from_slice(digits.format(integer).as_bytes())?;
+    Ok(())
+}
+
+fn hex_digit(half: u8) -> u8
+    requires { half < 16 }
+    ensures { result ≡ hex_digit half }
+{
+    if half < 10 {
+        b'0' + half
+    } else {
+        b'a' - 10 + half
+    }
+}
+
+fn put_hex(out: &mut Vec<u8>, byte: u8) -> Result<(), NoMemory>
+    ensures { OnOk result (out.new.items ≡ out.old.items ++ hex_byte byte) }
+{
+    out.extend_from_slice(&[hex_digit(byte / 16), hex_digit(byte % 16)])?;
+    Ok(())
+}
+
+fn put_quoted(out: &mut Vec<u8>, byte: u8) -> Result<(), NoMemory>
+    ensures { OnOk result (out.new.items ≡ out.old.items ++ quoted_byte byte) }
+{
+    match byte {
+        b'"' | b'\\' => out.extend_from_slice(&[b'\\', byte])?,
+        0..=0x1f | 0x7f => {
+            out.extend_from_slice(b"\\x")?;
+            put_hex(out, byte)?;
+        }
+        _ => out.push(byte)?,
+    }
+    Ok(())
+}
+
+fn put_text(out: &mut Vec<u8>, text: &[u8]) -> Result<(), NoMemory>
+    ensures { OnOk result (out.new.items ≡ out.old.items ++ flat_map quoted_byte text.now) }
+{
+    for byte in text {
+        put_quoted(out, *byte)?;
+    }
+    Ok(())
+}
+
+fn put_bytes(out: &mut Vec<u8>, bytes: &[u8]) -> Result<(), NoMemory>
+    ensures { OnOk result (out.new.items ≡ out.old.items ++ flat_map hex_byte bytes.now) }
+{
+    for byte in bytes {
+        put_hex(out, *byte)?;
+    }
+    Ok(())
+}
+
+fn put_value(out: &mut Vec<u8>, value: &Value) -> Result<(), NoMemory>
+    ensures { OnOk result (out.new.items ≡ out.old.items ++ value_text value.now) }
+{
+    match value {
+        Value::Int(integer) => put_integer(out, *integer)?,
+        Value::Text(text) => {
+            out.push(b'"')?;
+            put_text(out, text.as_slice())?;
+            out.push(b'"')?;
+        }
+        Value::Blob(bytes) => {
+            out.extend_from_slice(b"0x")?;
+            put_bytes(out, bytes.as_slice())?;
+        }
+    }
+    Ok(())
+}
+
+fn put_values(out: &mut Vec<u8>, values: &[Value]) -> Result<(), NoMemory>
+    ensures { OnOk result (out.new.items ≡ out.old.items ++ flat_map spaced_value values.now) }
+{
+    for value in values {
+        out.push(b' ')?;
+        put_value(out, value)?;
+    }
+    Ok(())
+}
+
+/// Appends the line of a row.
+pub fn put_row(out: &mut Vec<u8>, row: &Row) -> Result<(), NoMemory>
+    ensures { OnOk result (out.new.items ≡ out.old.items ++ row_line row.now) }
+{
+    out.extend_from_slice(b"row")?;
+    put_values(out, row.as_slice())?;
+    out.push(b'\n')?;
+    Ok(())
+}

@@ -1,0 +1,11 @@
+pub mod History
+pub mod Readings
+pub mod Legal
+pub mod Boxes
+pub mod Answer
+pub mod Verdict
+pub mod Step
+pub mod Session
+pub mod Growing
+pub mod Shown
+pub mod Laws

@@ -1,0 +1,5 @@
+pub mod SameKey
+pub mod Histories
+pub mod Keys
+pub mod Inserts
+pub mod Scans

@@ -1,0 +1,5 @@
+pub mod Bytes
+pub mod Record
+pub mod Boxes
+pub mod Periods
+pub mod Records
