@@ -1,5 +1,5 @@
 -- A filter over a list of hashes: which bits are set, and which hashes it admits.
-use Rattle.std.specs.Prelude.{◌≡◌, ℕ, zero, suc, ◌+◌, ◌*◌, ◌/◌, ◌%◌, ◌^◌, ◌<◌, Bool, ◌==◌, List, length, map, slice_index, if◌then◌else◌}
+use Rattle.std.specs.Prelude.{ℕ, zero, suc, ◌+◌, ◌*◌, ◌/◌, ◌%◌, ◌^◌, ◌<◌, Bool, ◌==◌, List, length, map, slice_index, if◌then◌else◌}
 use Rattle.std.specs.Int.{w64, rotate_left, bit_at}
 use Rattle.std.specs.Prelude.{bit_or}
 use Rattle.std.specs.List.{list_any, list_all, range_with_len}

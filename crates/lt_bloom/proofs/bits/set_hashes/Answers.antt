@@ -1,4 +1,4 @@
-use Rattle.std.proofs.Common.{◌≡◌, arith, ℕ, ap, ◌∙◌, ◌*◌, length}
+use Rattle.std.proofs.Common.{◌≡◌, arith, ap, ◌∙◌, ◌*◌, length}
 use Rattle.std.proofs.lemmas.List.{length-replicate}
 use Rattle.lt_bloom.specs.Filter.{bytes_for}
 use Rattle.lt_bloom.proofs.Filters.{filled}

@@ -1,0 +1,18 @@
+//! Blocks: a u32 number of records, at least one, then the records with rising keys, and nothing more.
+//! A block is read exactly where its bytes are one; else the first broken rule is named by its offset.
+#![tactic(auto)]
+
+mod block;
+mod fault;
+mod reading;
+mod table;
+mod view;
+mod writer;
+
+pub use block::Block;
+pub use fault::BlockError;
+pub use view::RecView;
+pub use writer::{Added, BlockWriter};
+
+#[cfg(test)]
+mod tests;

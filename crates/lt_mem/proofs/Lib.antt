@@ -1,0 +1,6 @@
+mod Order
+mod Between
+mod Joined
+mod Gap
+mod Kept
+mod Reading

@@ -1,0 +1,82 @@
+use Rattle.std.proofs.Common.{◌≡◌, ℕ, List, [], get_or, ap, sym, subst, ◌∙◌}
+use Rattle.std.proofs.lemmas.List.{get_or_default}
+use Rattle.lt_rec.specs.Record.{Record}
+use Rattle.lt_mem.specs.Rising.{IsRising}
+use Rattle.lt_mem.specs.Pieces.{IsFound, IsGap, piece_at, place_of}
+use Rattle.lt_mem.proofs.Gap.{found_in, fits, gap_none, gap_rises}
+use Rattle.lt_mem.proofs.pieces.Pieces.add.Goals as goal
+use Rattle.lt_mem.proofs.pieces.Pieces.add.Goals.{in-Ok-put_at, in-Err-put_at}
+
+pub invariant_of-self-in-Err : goal.invariant_of-self-in-Err
+invariant_of-self-in-Err c =
+    let ps = c.self.inside.pieces.items in
+    let at = c.in-Err.at in
+    let place = c.in-Err.place in
+    let h : IsGap ps c.key.result.now at place = subst (λ (qs : List (List Record)). IsGap qs c.key.result.now at place) c.as_slice-2.ensures.value c.in-Err.ensures.gap in
+    let rises = gap_rises ps c.key.result.now at place c.self.invariant h c.args.rec (sym c.key.ensures.value) in
+    record {
+      some = c.put_at.ensures.some;
+      rising = elim c.match-put_at.branch [
+        | in-Ok-put_at w ↦ subst IsRising (sym w.in-Ok-put_at.ensures.ok) rises
+        | in-Err-put_at w ↦ subst IsRising (sym w.in-Err-put_at.ensures.unchanged) c.self.invariant.rising
+      ];
+    }
+
+pub returns-after-put_at-clause-rising : goal.returns-after-put_at-clause-rising
+returns-after-put_at-clause-rising c =
+    let ps = c.self.inside.pieces.items in
+    let at = c.in-Err.at in
+    let place = c.in-Err.place in
+    let h : IsGap ps c.key.result.now at place = subst (λ (qs : List (List Record)). IsGap qs c.key.result.now at place) c.as_slice-2.ensures.value c.in-Err.ensures.gap in
+    let rises = gap_rises ps c.key.result.now at place c.self.invariant h c.args.rec (sym c.key.ensures.value) in
+    elim c.match-put_at.branch [
+      | in-Ok-put_at w ↦ subst IsRising (sym w.in-Ok-put_at.ensures.ok) rises
+      | in-Err-put_at w ↦ subst IsRising (sym w.in-Err-put_at.ensures.unchanged) c.self.invariant.rising
+    ]
+
+pub returns-after-put_at-clause-ok : goal.returns-after-put_at-clause-ok
+returns-after-put_at-clause-ok c =
+    let ps = c.self.inside.pieces.items in
+    let at = c.in-Err.at in
+    let place = c.in-Err.place in
+    let h : IsGap ps c.key.result.now at place = subst (λ (qs : List (List Record)). IsGap qs c.key.result.now at place) c.as_slice-2.ensures.value c.in-Err.ensures.gap in
+    elim c.match-put_at.branch [
+      | in-Ok-put_at w ↦ rw (w.result-is, ← c.self.view_is) (place_of ps at place, fits ps at c.self.invariant h.held place h.within, w.in-Ok-put_at.ensures.ok)
+      | in-Err-put_at w ↦ rw w.result-is tt
+    ]
+
+pub returns-after-put_at-clause-distinct : goal.returns-after-put_at-clause-distinct
+returns-after-put_at-clause-distinct c =
+    let ps = c.self.inside.pieces.items in
+    let at = c.in-Err.at in
+    let place = c.in-Err.place in
+    let h : IsGap ps c.args.rec.key at place = subst (λ (k : List ℕ). IsGap ps k at place) c.key.ensures.value (subst (λ (qs : List (List Record)). IsGap qs c.key.result.now at place) c.as_slice-2.ensures.value c.in-Err.ensures.gap) in
+    elim c.match-put_at.branch [
+      | in-Ok-put_at w ↦ rw (w.result-is, ← c.self.view_is) (gap_none ps c.args.rec.key at place c.self.invariant h)
+      | in-Err-put_at w ↦ rw w.result-is tt
+    ]
+
+pub returns-after-put_at-clause-cause : goal.returns-after-put_at-clause-cause
+returns-after-put_at-clause-cause c =
+    let ps = c.self.inside.pieces.items in
+    let at = c.in-Err.at in
+    let place = c.in-Err.place in
+    let h : IsGap ps c.args.rec.key at place = subst (λ (k : List ℕ). IsGap ps k at place) c.key.ensures.value (subst (λ (qs : List (List Record)). IsGap qs c.key.result.now at place) c.as_slice-2.ensures.value c.in-Err.ensures.gap) in
+    elim c.match-put_at.branch [
+      | in-Ok-put_at w ↦ rw w.result-is tt
+      | in-Err-put_at w ↦ rw (w.result-is, ← c.self.view_is) (gap_none ps c.args.rec.key at place c.self.invariant h)
+    ]
+
+pub returns-in-Ok-clause-cause : goal.returns-in-Ok-clause-cause
+returns-in-Ok-clause-cause c =
+    let ps = c.self.inside.pieces.items in
+    let at = c.in-Ok.at in
+    let place = c.in-Ok.place in
+    let key = c.key.result.now in
+    let x = c.index-recs-place.result in
+    let f : IsFound ps key at place = subst (λ (qs : List (List Record)). IsFound qs key at place) c.as_slice-2.ensures.value c.in-Ok.ensures.found in
+    let same : c.as_slice-recs.result.now ≡ piece_at ps at = c.as_slice-recs.ensures ∙ c.index-piece.ensures ∙ get_or_default ps at c.index-piece.result.now [] f.held in
+    let e : x ≡ get_or (piece_at ps at) place x = subst (λ (xs : List Record). x ≡ get_or xs place x) same c.index-recs-place.is in
+    let w = found_in ps at c.self.invariant f.held place x f.within e in
+    let keyed : x.key ≡ c.args.rec.key = ap (λ (r : Record). r.key) e ∙ f.same x ∙ c.key.ensures.value in
+    rw (← c.self.view_is) (w.0, x, w.1, w.2, (sym c.seq-seq.ensures.value, keyed))

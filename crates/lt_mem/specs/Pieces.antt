@@ -1,0 +1,42 @@
+-- Rising records in pieces.
+use Rattle.std.specs.Prelude.{◌≡◌, ℕ, ◌+◌, ◌<◌, ◌≤◌, ◌⊎◌, true, List, [], ◌∷◌, length, take, slice_index_or}
+use Rattle.std.specs.List.{All}
+use Rattle.lt_rec.specs.Bytes.{is_less}
+use Rattle.lt_rec.specs.Record.{Record}
+use Rattle.lt_rec.specs.Records.{joined}
+use Rattle.lt_mem.specs.Rising.{IsRising}
+
+abbrev pub first_key : List Record → List ℕ
+first_key [] = []
+first_key (r ∷ rs) = r.key
+
+-- the key a is b or comes before it
+abbrev pub IsUpTo : List ℕ → List ℕ → Type 0
+IsUpTo a b = (is_less a b ≡ true) ⊎ (a ≡ b)
+
+abbrev pub NoneIsEmpty : List (List Record) → Type 0
+NoneIsEmpty ps = All (λ p. 0 < length p) ps
+
+-- each piece has a record, and the records of all of them rise
+pub record AreLined (ps : List (List Record)) : Type 0 where
+  pub some : NoneIsEmpty ps
+  pub rising : IsRising (joined ps)
+
+abbrev pub piece_at : List (List Record) → ℕ → List Record
+piece_at ps at = slice_index_or ps at []
+
+-- where the place of a piece stands among all records
+abbrev pub place_of : List (List Record) → ℕ → ℕ → ℕ
+place_of ps at place = length (joined (take at ps)) + place
+
+-- all records before the place come before the key, and all from it on come after it
+pub record IsGap (ps : List (List Record)) (key : List ℕ) (at place : ℕ) : Type 0 where
+  pub held : at < length ps
+  pub within : place ≤ length (piece_at ps at)
+  pub before : (k : ℕ) (d : Record) → k < place_of ps at place → is_less (slice_index_or (joined ps) k d).key key ≡ true
+  pub after : (k : ℕ) (d : Record) → place_of ps at place ≤ k → k < length (joined ps) → is_less key (slice_index_or (joined ps) k d).key ≡ true
+
+pub record IsFound (ps : List (List Record)) (key : List ℕ) (at place : ℕ) : Type 0 where
+  pub held : at < length ps
+  pub within : place < length (piece_at ps at)
+  pub same : (d : Record) → (slice_index_or (piece_at ps at) place d).key ≡ key

@@ -1,0 +1,16 @@
+//! Records in memory, in the order of their keys.
+#![tactic(auto)]
+
+mod add_error;
+mod piece;
+mod pieces;
+mod search;
+mod store;
+mod tablet;
+mod walk;
+
+pub use add_error::AddError;
+pub use tablet::MemTablet;
+
+#[cfg(test)]
+mod tests;
