@@ -4,6 +4,7 @@
 
 mod block;
 mod fault;
+mod laws;
 mod reading;
 mod table;
 mod view;
@@ -11,6 +12,7 @@ mod writer;
 
 pub use block::Block;
 pub use fault::BlockError;
+pub use laws::block_laws;
 pub use view::RecView;
 pub use writer::{Added, BlockWriter};
 

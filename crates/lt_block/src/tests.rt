@@ -1,6 +1,8 @@
+ghost use Rattle.std.specs.Prelude.{◌≡◌, length};
+
 use super::*;
 use bytes::Bytes;
-use lt_rec::{Cut, Octets, Rec};
+use lt_rec::{Cut, NoMemory, Octets, Rec};
 use std::alloc::Global;
 use std::test::*;
 
@@ -17,40 +19,65 @@ static THREE: [u8; 91] = [
     0, 0, 0, 8, 0, 0, 0, 1, 0, 0, 0, 0, 0, 0, 0, 2, 0, 0, 0, 0, 0, 0, 0, 0, 0, 0, 0, 3, 99,
 ];
 
+fn three() -> &'static [u8]
+    ensures { length result.now ≡ 91 }
+{
+    &THREE
+}
+
 fn fault_of(alloc: Global, bytes: &[u8]) -> Option<BlockError> {
     let bytes = Bytes::copy_from_slice(alloc, bytes).ok()?;
     Block::read(alloc, bytes).err()
 }
 
+fn one() -> &'static [u8] {
+    &ONE
+}
+
+fn writer_of_one(alloc: Global) -> Result<BlockWriter, NoMemory> {
+    let key = Octets::from_slice(alloc, &[0, 0, 0, 0, 0, 0, 0, 1])?;
+    let body = Octets::from_slice(alloc, &[])?;
+    let rec = Rec::from_parts(key, 0, 0, body);
+    let mut writer = BlockWriter::new(alloc);
+    let _added = writer.add(&rec)?;
+    Ok(writer)
+}
+
 #[test]
-fn writes_and_reads_one_record(rt: HostRuntime) -> Result<(), Fail> {
-    let key = Octets::from_slice(rt.alloc(), &[0, 0, 0, 0, 0, 0, 0, 1])?;
-    let rec = Rec::from_parts(key, 0, 0, Octets::from_slice(rt.alloc(), &[])?);
-    let mut writer = BlockWriter::new(rt.alloc());
-    assert_eq!(rt; writer.add(&rec)?, Added::Put, "one record fits");
+fn writes_one_record(rt: HostRuntime) -> Result<(), Fail> {
+    let writer = writer_of_one(rt.alloc())?;
     assert_eq!(rt; writer.count(), 1, "one record is in");
-    let bytes = Bytes::copy_from_slice(rt.alloc(), &ONE)?;
+    let written = writer.finish();
+    assert_eq!(rt; written.as_slice(), one(), "the bytes of one record");
+    Ok(())
+}
+
+#[test]
+fn reads_one_record(rt: HostRuntime) -> Result<(), Fail> {
+    let bytes = Bytes::copy_from_slice(rt.alloc(), one())?;
     let block = Block::read(rt.alloc(), bytes)?;
     assert_eq!(rt; block.count(), 1, "one record is read");
     assert_eq!(rt; block.at(0), 4, "it lies behind the number of records");
-    let copy = block.rec(rt.alloc(), 0)?;
-    assert_eq!(rt; copy.key(), rec.key(), "the key that was written");
+    assert_eq!(rt; block.rec(rt.alloc(), 0)?.ts(), 1, "the copy's timestamp");
     let view = block.get(0);
+    assert_eq!(rt; view.key().len(), 8, "the key");
     assert_eq!(rt; view.ts(), 1, "the timestamp ends the key");
     assert_eq!(rt; view.seq(), 0, "the number");
     assert_eq!(rt; view.ver(), 0, "the version");
     assert!(rt; view.body().is_empty(), "there is no body");
+    Ok(())
+}
+
+#[test]
+fn seeks_behind_the_only_key(rt: HostRuntime) -> Result<(), Fail> {
+    let bytes = Bytes::copy_from_slice(rt.alloc(), one())?;
+    let block = Block::read(rt.alloc(), bytes)?;
+    let after = Octets::from_slice(rt.alloc(), &[0, 0, 0, 0, 0, 0, 0, 1])?;
     let cut = Cut {
-        bytes: Octets::from_slice(rt.alloc(), &[0, 0, 0, 0, 0, 0, 0, 1])?,
+        bytes: after,
         after: true,
     };
     assert_eq!(rt; block.seek(&cut), 1, "a key is below the cut after it");
-    let written = writer.finish();
-    assert_eq!(rt;
-        written.as_slice(),
-        ONE.as_slice(),
-        "the bytes of one record"
-    );
     Ok(())
 }
 
@@ -71,7 +98,7 @@ fn names_where_the_bytes_end(rt: HostRuntime) {
             at: (record + field) as u64,
         });
         assert_eq!(rt;
-            fault_of(rt.alloc(), &THREE[..n]),
+            fault_of(rt.alloc(), three().split_at(n).0),
             wanted,
             "a block of three records cut to {n} bytes"
         );
@@ -92,7 +119,7 @@ fn names_what_is_turned(rt: HostRuntime) -> Result<(), Fail> {
         (60, 0, 33, "a key below the last"),
     ];
     for (place, byte, at, case) in table {
-        let mut bytes = THREE.to_vec(rt.alloc())?;
+        let mut bytes = three().to_vec(rt.alloc())?;
         if place < bytes.len() {
             bytes[place] = byte;
         }
@@ -102,5 +129,16 @@ fn names_what_is_turned(rt: HostRuntime) -> Result<(), Fail> {
             "{case}"
         );
     }
+    let mut bytes = three().to_vec(rt.alloc())?;
+    if bytes.len() == 91 {
+        bytes[37] = 1;
+        bytes[60] = 1;
+    }
+    let first = Some(BlockError::Bad { at: 33 });
+    assert_eq!(rt;
+        fault_of(rt.alloc(), bytes.as_slice()),
+        first,
+        "a key again goes before a body too long"
+    );
     Ok(())
 }

@@ -31,6 +31,7 @@ impl Filter {
     pub fn of(alloc: Global, hashes: &[u64]) -> Result<Filter, NoMemory>
         requires some { 0 < length hashes.now }
         ensures exact { IfOk result (λ filter. filter ≡ filter_bytes hashes.now) }
+        ensures len { IfOk result (λ filter. length filter ≡ bytes_for (length hashes.now)) }
     {
         let count = hashes.len() as u64;
         if count > Filter::MOST_HASHES {

@@ -1,0 +1,4 @@
+mod Images
+mod Kept
+mod Numbers
+mod Replays
