@@ -3,3 +3,4 @@ mod Digits
 mod Taken
 mod Spelled
 mod LineParts
+mod Quoted

@@ -31,7 +31,8 @@ fn after<'a>(bytes: &'a [u8], words: &[u8]) -> Option<&'a [u8]>
     bytes.strip_prefix(words)
 }
 
-fn is_plain(byte: u8) -> bool
+/// Whether a byte may stand as it is in a text.
+pub fn is_plain(byte: u8) -> bool
     ensures { result ≡ is_plain byte }
 {
     byte >= b' ' && byte <= b'~' && byte != b'"' && byte != b'\\'

@@ -1,9 +1,11 @@
 //! The text of a row: each value after one space.
 ghost use Rattle.std.specs.Prelude.{◌≡◌, ◌<◌, ◌++◌, OnOk, decimal};
-ghost use Rattle.std.specs.List.{flat_map};
+ghost use Rattle.std.specs.List.{flat_map, list_all};
 ghost use Rattle.std.specs.Fmt.{signed_decimal};
+ghost use Rattle.lt_lang.specs.Grammar.{is_plain};
 ghost use Rattle.lt_lang.specs.Texts.{hex_byte, hex_digit, quoted_byte, row_line, spaced_value, value_text};
 
+use crate::parsing::is_plain;
 use itoa::Buffer;
 use lt_rec::NoMemory;
 use lt_schema::{Row, Value};
@@ -57,12 +59,28 @@ fn put_quoted(out: &mut Vec<u8>, byte: u8) -> Result<(), NoMemory>
     Ok(())
 }
 
-fn put_text(out: &mut Vec<u8>, text: &[u8]) -> Result<(), NoMemory>
+fn is_all_plain(text: &[u8]) -> bool
+    ensures { result ≡ list_all is_plain text.now }
+{
+    text.iter().all(|byte| is_plain(*byte))
+}
+
+fn put_each(out: &mut Vec<u8>, text: &[u8]) -> Result<(), NoMemory>
     ensures { OnOk result (out.new.items ≡ out.old.items ++ flat_map quoted_byte text.now) }
 {
     for byte in text {
         put_quoted(out, *byte)?;
     }
+    Ok(())
+}
+
+fn put_text(out: &mut Vec<u8>, text: &[u8]) -> Result<(), NoMemory>
+    ensures { OnOk result (out.new.items ≡ out.old.items ++ flat_map quoted_byte text.now) }
+{
+    if !is_all_plain(text) {
+        return put_each(out, text);
+    }
+    out.extend_from_slice(text)?;
     Ok(())
 }
 

@@ -15,6 +15,3 @@ pub use kind::Kind;
 pub use row::{Row, RowFault, Rows};
 pub use schema::Schema;
 pub use value::Value;
-
-#[cfg(test)]
-mod tests;
