@@ -5,3 +5,4 @@ pub mod Directory
 pub mod Memory
 pub mod Replacing
 pub mod Steps
+pub mod Texts

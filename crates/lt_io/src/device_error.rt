@@ -1,4 +1,5 @@
-ghost use Rattle.std.specs.Prelude.{◌≡◌};
+ghost use Rattle.std.specs.Prelude.{◌≡◌, Some, codes};
+ghost use Rattle.lt_io.specs.Texts.{device_error_text};
 ghost use Rattle.lt_io.specs.declared.device_error.DeviceError.TheVariants.{Failed as Fault, NoMemory as WantOfMemory};
 
 use lt_rec::NoMemory;
@@ -19,6 +20,8 @@ pub enum DeviceError {
 }
 
 impl fmt::Display for Failed {
+    ghost output = { λ _. Some (codes "the device failed") };
+
     fn fmt<W: fmt::Write>(&self, f: &mut fmt::Formatter<W>) -> fmt::Result {
         write!(f, "the device failed")
     }
@@ -27,6 +30,8 @@ impl fmt::Display for Failed {
 impl std::error::Error for Failed {}
 
 impl fmt::Display for DeviceError {
+    ghost output = { λ e. Some (device_error_text e) };
+
     fn fmt<W: fmt::Write>(&self, f: &mut fmt::Formatter<W>) -> fmt::Result {
         match self {
             DeviceError::Failed => write!(f, "the device failed"),
