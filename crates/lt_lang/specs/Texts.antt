@@ -2,6 +2,7 @@
 use Rattle.std.specs.Prelude.{ℕ, ◌+◌, ◌/◌, ◌%◌, Bool, true, false, ◌||◌, ◌==◌, nat_lt, List, [], ◌∷◌, ◌++◌, length, Option, Some, None, if◌then◌else◌, codes, decimal}
 use Rattle.std.specs.Fmt.{signed_decimal}
 use Rattle.std.specs.List.{flat_map}
+use Rattle.lt_rec.specs.declared.listed.Listed.{Listed}
 use Rattle.lt_schema.specs.declared.value.Value.{Value}
 use Rattle.lt_schema.specs.declared.value.Value.TheVariants.{Int, Text, Blob}
 use Rattle.lt_schema.specs.declared.row.RowFault.{RowFault}
@@ -10,8 +11,10 @@ use Rattle.lt_schema.specs.declared.change.AlterError.{AlterError}
 use Rattle.lt_schema.specs.declared.change.AlterError.TheVariants.{Exists, TooMany, BadDefault, NoColumn, NotInt32}
 use Rattle.lt_lang.specs.declared.query.BoundFault.{BoundFault}
 use Rattle.lt_lang.specs.declared.query.BoundFault.TheVariants as bound_faults
+use Rattle.lt_lang.specs.declared.upkeep.MergeEnd.{MergeEnd}
+use Rattle.lt_lang.specs.declared.upkeep.MergeEnd.TheVariants.{Merged, Emptied, Gone}
 use Rattle.lt_lang.specs.declared.reply.Reply.{Reply}
-use Rattle.lt_lang.specs.declared.reply.Reply.TheVariants.{BadLine, Inserted, BadRow, TooOld, Present, Spent, Rows, Latest, BadLimit, BadBound, NoTablet, Version, Refused, Damaged, Fault, NoMemory}
+use Rattle.lt_lang.specs.declared.reply.Reply.TheVariants.{BadLine, Inserted, BadRow, TooOld, Present, Spent, Rows, Latest, BadLimit, BadBound, Flushed, NoTablet, Upkept, Version, Refused, Tablets, Damaged, Fault, NoMemory}
 
 -- a line and its LF
 abbrev pub line_of : List ℕ → List ℕ
@@ -76,6 +79,42 @@ refusal_text BadDefault = codes "bad default"
 refusal_text NoColumn = codes "no column"
 refusal_text NotInt32 = codes "not int32"
 
+-- a number after one space
+abbrev pub spaced_number : ℕ → List ℕ
+spaced_number n = 32 ∷ decimal n
+
+abbrev pub flushed_text : ℕ → List ℕ → List ℕ
+flushed_text upto tablets = codes "flushed " ++ decimal upto ++ codes " tablets" ++ flat_map spaced_number tablets
+
+-- what became of the inputs of a merge
+abbrev pub end_text : MergeEnd → List ℕ
+end_text (Merged file) = codes " into " ++ decimal file
+end_text Emptied = codes " into none"
+end_text (Gone file) = codes " gone " ++ decimal file
+
+-- the inputs in the run's order, and the merge's end
+abbrev pub run_text : List ℕ → Option MergeEnd → List ℕ
+run_text inputs None = codes " none"
+run_text inputs (Some end) = flat_map spaced_number inputs ++ end_text end
+
+abbrev pub upkept_text : ℕ → List ℕ → Option MergeEnd → ℕ → List ℕ
+upkept_text low inputs end swept = codes "upkeep low " ++ decimal low ++ codes " run" ++ run_text inputs end ++ codes " swept " ++ decimal swept
+
+-- a tablet's file, and how many rows and bytes it has
+abbrev pub sizes_text : Listed → List ℕ
+sizes_text t = codes "tablet " ++ decimal t.file ++ codes " rows " ++ decimal t.rows ++ codes " bytes " ++ decimal t.bytes
+
+-- its least and greatest timestamps, and its period's start and length
+abbrev pub times_text : Listed → List ℕ
+times_text t = codes " span " ++ decimal t.low ++ codes " " ++ decimal t.high ++ codes " period " ++ decimal t.period.start ++ codes " " ++ decimal t.period.len
+
+-- a tablet on disk; at the line's end its rows' least and greatest numbers
+abbrev pub tablet_line : Listed → List ℕ
+tablet_line t = line_of (sizes_text t ++ times_text t ++ codes " numbers " ++ decimal t.first ++ codes " " ++ decimal t.last)
+
+abbrev pub tablets_text : List Listed → List ℕ
+tablets_text listing = line_of (codes "tablets " ++ decimal (length listing)) ++ flat_map tablet_line listing
+
 -- the lines of a reply
 abbrev pub reply_text_of : Reply → List ℕ
 reply_text_of (BadLine at) = line_of (codes "bad line at " ++ decimal at)
@@ -88,9 +127,12 @@ reply_text_of (Rows rows more place since) = rows_text rows more place since
 reply_text_of (Latest row place since) = latest_text row place since
 reply_text_of (BadLimit given) = line_of (codes "bad limit " ++ decimal given)
 reply_text_of (BadBound fault) = line_of (bound_fault_text fault)
+reply_text_of (Flushed upto tablets) = line_of (flushed_text upto tablets)
 reply_text_of (NoTablet id) = line_of (codes "no tablet " ++ decimal id)
+reply_text_of (Upkept low run end swept) = line_of (upkept_text low run end swept)
 reply_text_of (Version version) = line_of (codes "version " ++ decimal version)
 reply_text_of (Refused why) = line_of (refusal_text why)
+reply_text_of (Tablets listing) = tablets_text listing
 reply_text_of (Damaged file at) = line_of (codes "damaged " ++ decimal file ++ codes " " ++ decimal at)
 reply_text_of Fault = line_of (codes "fault")
 reply_text_of NoMemory = line_of (codes "no memory")

@@ -10,6 +10,7 @@ mod parsing;
 mod printing;
 mod query;
 mod reply;
+mod upkeep;
 mod values;
 
 pub use command::{Command, Line};
@@ -19,6 +20,7 @@ pub use parsing::parse_line;
 pub use printing::{put_client, put_end, put_reply, reply_text};
 pub use query::{BoundFault, Edge, Query};
 pub use reply::Reply;
+pub use upkeep::{Listing, MergeEnd};
 
 #[cfg(test)]
 mod tests;

@@ -1,11 +1,11 @@
 //! The texts of replies, of the line that begins a client's block, and of a session's last line.
 ghost use Rattle.std.specs.Prelude.{◌≡◌, ◌∷◌, ◌++◌, [], IfOk, OnOk, codes, decimal, length};
 ghost use Rattle.std.specs.List.{flat_map};
-ghost use Rattle.lt_lang.specs.Texts.{bound_fault_text, client_line, end_line, latest_text, line_of, place_text, refusal_text, reply_text_of, row_fault_text, row_line, rows_text};
+ghost use Rattle.lt_lang.specs.Texts.{bound_fault_text, client_line, end_line, end_text, flushed_text, latest_text, line_of, place_text, refusal_text, reply_text_of, row_fault_text, row_line, rows_text, run_text, sizes_text, spaced_number, tablet_line, tablets_text, times_text, upkept_text};
 
 use crate::values::{put_number, put_row};
-use crate::{BoundFault, Reply};
-use lt_rec::{Label, NoMemory, Octets};
+use crate::{BoundFault, MergeEnd, Reply};
+use lt_rec::{Label, Listed, NoMemory, Octets};
 use lt_schema::{AlterError, Row, RowFault, Rows};
 use std::alloc::Global;
 
@@ -116,6 +116,106 @@ fn put_latest(out: &mut Vec<u8>, row: &Option<Row>, place: u64, since: u64) -> R
     }
 }
 
+fn put_numbers(out: &mut Vec<u8>, numbers: &[u64]) -> Result<(), NoMemory>
+    ensures { OnOk result (out.new.items ≡ out.old.items ++ flat_map spaced_number numbers.now) }
+{
+    for number in numbers {
+        out.push(b' ')?;
+        put_number(out, *number)?;
+    }
+    Ok(())
+}
+
+fn put_named(out: &mut Vec<u8>, words: &[u8], number: u64) -> Result<(), NoMemory>
+    ensures { OnOk result (out.new.items ≡ out.old.items ++ words.now ++ decimal number) }
+{
+    out.extend_from_slice(words)?;
+    put_number(out, number)?;
+    Ok(())
+}
+
+fn put_flushed(out: &mut Vec<u8>, upto: u64, tablets: &[u64]) -> Result<(), NoMemory>
+    ensures { OnOk result (out.new.items ≡ out.old.items ++ line_of (flushed_text upto tablets.now)) }
+{
+    put_named(out, b"flushed ", upto)?;
+    out.extend_from_slice(b" tablets")?;
+    put_numbers(out, tablets)?;
+    out.push(b'\n')?;
+    Ok(())
+}
+
+fn put_merge_end(out: &mut Vec<u8>, end: MergeEnd) -> Result<(), NoMemory>
+    ensures { OnOk result (out.new.items ≡ out.old.items ++ end_text end) }
+{
+    match end {
+        MergeEnd::Merged { file } => put_named(out, b" into ", file),
+        MergeEnd::Emptied => Ok(out.extend_from_slice(b" into none")?),
+        MergeEnd::Gone { file } => put_named(out, b" gone ", file),
+    }
+}
+
+fn put_run(out: &mut Vec<u8>, run: &[u64], end: Option<MergeEnd>) -> Result<(), NoMemory>
+    ensures { OnOk result (out.new.items ≡ out.old.items ++ run_text run.now end) }
+{
+    match end {
+        None => Ok(out.extend_from_slice(b" none")?),
+        Some(end) => {
+            put_numbers(out, run)?;
+            put_merge_end(out, end)
+        }
+    }
+}
+
+fn put_upkept(
+    out: &mut Vec<u8>,
+    low: u64,
+    run: &[u64],
+    end: Option<MergeEnd>,
+    swept: u64,
+) -> Result<(), NoMemory>
+    ensures { OnOk result (out.new.items ≡ out.old.items ++ line_of (upkept_text low run.now end swept)) }
+{
+    put_named(out, b"upkeep low ", low)?;
+    out.extend_from_slice(b" run")?;
+    put_run(out, run, end)?;
+    put_one(out, b" swept ", swept)
+}
+
+fn put_sizes(out: &mut Vec<u8>, tablet: &Listed) -> Result<(), NoMemory>
+    ensures { OnOk result (out.new.items ≡ out.old.items ++ sizes_text tablet.now) }
+{
+    put_named(out, b"tablet ", tablet.file)?;
+    put_named(out, b" rows ", tablet.rows)?;
+    put_named(out, b" bytes ", tablet.bytes)
+}
+
+fn put_times(out: &mut Vec<u8>, tablet: &Listed) -> Result<(), NoMemory>
+    ensures { OnOk result (out.new.items ≡ out.old.items ++ times_text tablet.now) }
+{
+    put_named(out, b" span ", tablet.low)?;
+    put_named(out, b" ", tablet.high)?;
+    put_named(out, b" period ", tablet.period.start())?;
+    put_named(out, b" ", tablet.period.len())
+}
+
+fn put_tablet(out: &mut Vec<u8>, tablet: &Listed) -> Result<(), NoMemory>
+    ensures { OnOk result (out.new.items ≡ out.old.items ++ tablet_line tablet.now) }
+{
+    put_sizes(out, tablet)?;
+    put_times(out, tablet)?;
+    put_two(out, b" numbers ", tablet.first, b" ", tablet.last)
+}
+
+fn put_tablets(out: &mut Vec<u8>, listing: &[Listed]) -> Result<(), NoMemory>
+    ensures { OnOk result (out.new.items ≡ out.old.items ++ tablets_text listing.now) }
+{
+    put_one(out, b"tablets ", listing.len() as u64)?;
+    for tablet in listing {
+        put_tablet(out, tablet)?;
+    }
+    Ok(())
+}
+
 /// Appends the lines of a reply. Where memory runs out, a front of them may be there.
 pub fn put_reply(out: &mut Vec<u8>, reply: &Reply) -> Result<(), NoMemory>
     ensures { OnOk result (out.new.items ≡ out.old.items ++ reply_text_of reply.now) }
@@ -136,9 +236,17 @@ pub fn put_reply(out: &mut Vec<u8>, reply: &Reply) -> Result<(), NoMemory>
         Reply::Latest { row, place, since } => put_latest(out, row, *place, *since),
         Reply::BadLimit { given } => put_one(out, b"bad limit ", *given),
         Reply::BadBound { fault } => put_bound_fault(out, *fault),
+        Reply::Flushed { upto, tablets } => put_flushed(out, *upto, tablets.as_slice()),
         Reply::NoTablet { id } => put_one(out, b"no tablet ", *id),
+        Reply::Upkept {
+            low,
+            run,
+            end,
+            swept,
+        } => put_upkept(out, *low, run.as_slice(), *end, *swept),
         Reply::Version { version } => put_one(out, b"version ", *version),
         Reply::Refused { why } => put_refusal(out, *why),
+        Reply::Tablets { listing } => put_tablets(out, listing.as_slice()),
         Reply::Damaged { file, at } => put_two(out, b"damaged ", *file, b" ", *at),
         Reply::Fault => put_words(out, b"fault"),
         Reply::NoMemory => put_words(out, b"no memory"),

@@ -1,4 +1,5 @@
-use crate::BoundFault;
+use crate::{BoundFault, Listing, MergeEnd};
+use lt_rec::Files;
 use lt_schema::{AlterError, Row, RowFault, Rows};
 
 /// The answer to a line.
@@ -48,9 +49,22 @@ pub enum Reply {
     BadBound {
         fault: BoundFault,
     },
+    /// All rows below this number are durable; the tablets in memory that were written, rising by number.
+    Flushed {
+        upto: u64,
+        tablets: Files,
+    },
     /// No tablet in memory has this number.
     NoTablet {
         id: u64,
+    },
+    /// The low bound after an upkeep, the inputs of its merge in the run's order and how it ended, and how many files
+    /// were removed. The end is None where there was no run.
+    Upkept {
+        low: u64,
+        run: Files,
+        end: Option<MergeEnd>,
+        swept: u64,
     },
     /// The schema's new version.
     Version {
@@ -59,6 +73,10 @@ pub enum Reply {
     /// The change is not admitted.
     Refused {
         why: AlterError,
+    },
+    /// The tablets on disk.
+    Tablets {
+        listing: Listing,
     },
     /// A file is damaged at this offset.
     Damaged {

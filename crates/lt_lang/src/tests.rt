@@ -1,5 +1,5 @@
 use super::*;
-use lt_rec::{Label, Octets};
+use lt_rec::{Files, Label, Listed, Octets, Period};
 use lt_schema::{AlterError, Row, RowFault, Rows, Value};
 use std::alloc::Global;
 use std::test::Fail;
@@ -259,6 +259,77 @@ fn replies_are_lines(rt: HostRuntime) -> Result<(), Fail> {
         let text = reply_text(rt.alloc(), &reply)?;
         assert_eq!(rt; text.as_slice(), wanted.as_bytes(), "the text of {reply:?}");
     }
+    Ok(())
+}
+
+fn upkept(alloc: Global, run: &[u64], end: Option<MergeEnd>, swept: u64) -> Result<Reply, Fail> {
+    Ok(Reply::Upkept {
+        low: 5,
+        run: Files::from_vec(Vec::from_slice(alloc, run)?),
+        end,
+        swept,
+    })
+}
+
+fn flushed(alloc: Global, upto: u64, tablets: &[u64]) -> Result<Reply, Fail> {
+    Ok(Reply::Flushed {
+        upto,
+        tablets: Files::from_vec(Vec::from_slice(alloc, tablets)?),
+    })
+}
+
+#[test]
+fn flushes_and_upkeeps_are_lines(rt: HostRuntime) -> Result<(), Fail> {
+    let alloc = rt.alloc();
+    for (reply, wanted) in [
+        (flushed(alloc, 4, &[0, 1, 2])?, "flushed 4 tablets 0 1 2\n"),
+        (flushed(alloc, 0, &[])?, "flushed 0 tablets\n"),
+        (
+            upkept(alloc, &[], None, 2)?,
+            "upkeep low 5 run none swept 2\n",
+        ),
+        (
+            upkept(alloc, &[3, 1], Some(MergeEnd::Merged { file: 7 }), 2)?,
+            "upkeep low 5 run 3 1 into 7 swept 2\n",
+        ),
+        (
+            upkept(alloc, &[3, 1], Some(MergeEnd::Emptied), 0)?,
+            "upkeep low 5 run 3 1 into none swept 0\n",
+        ),
+        (
+            upkept(alloc, &[3, 1], Some(MergeEnd::Gone { file: 3 }), 1)?,
+            "upkeep low 5 run 3 1 gone 3 swept 1\n",
+        ),
+    ] {
+        let text = reply_text(alloc, &reply)?;
+        assert_eq!(rt; text.as_slice(), wanted.as_bytes(), "the text of {reply:?}");
+    }
+    Ok(())
+}
+
+#[test]
+fn a_listing_has_a_line_a_tablet(rt: HostRuntime) -> Result<(), Fail> {
+    let period = Period::new(1499990400000000, Period::FOUR_HOURS);
+    let tablet = Listed {
+        file: 5,
+        rows: 2,
+        bytes: 258,
+        low: 1500000000000000,
+        high: 1500000000000001,
+        period,
+        first: 0,
+        last: 1,
+    };
+    let listing = Listing::from_vec(vec![in rt.alloc(); tablet]?);
+    let text = reply_text(rt.alloc(), &Reply::Tablets { listing })?;
+    assert_eq!(rt;
+        text.as_slice(),
+        b"tablets 1\ntablet 5 rows 2 bytes 258 span 1500000000000000 1500000000000001 period 1499990400000000 14400000000 numbers 0 1\n".as_slice(),
+        "one tablet"
+    );
+    let listing = Listing::from_vec(Vec::new(rt.alloc()));
+    let text = reply_text(rt.alloc(), &Reply::Tablets { listing })?;
+    assert_eq!(rt; text.as_slice(), b"tablets 0\n".as_slice(), "no tablet");
     Ok(())
 }
 
