@@ -13,12 +13,12 @@ use Rattle.lt_lang.specs.declared.command.Command.TheVariants.{Insert, Scan, Lat
 use Rattle.lt_lang.specs.declared.command.Line.{Line}
 use Rattle.lt_lang.specs.declared.command.Line.TheVariants.{Skip, Bad, Command as CommandLine}
 use Rattle.lt_lang.specs.declared.reply.Reply.{Reply}
-use Rattle.lt_lang.specs.declared.reply.Reply.TheVariants.{Inserted, BadRow, TooOld, Present, Spent, Rows, Latest, BadLimit, BadBound, NoTablet, Version, Refused, Damaged, Fault, NoMemory}
+use Rattle.lt_lang.specs.declared.reply.Reply.TheVariants.{Inserted, BadRow, TooOld, Present, Spent, Rows, Latest, BadLimit, BadBound, Flushed, NoTablet, Upkept, Version, Refused, Tablets as TabletsReply, Damaged, Fault, NoMemory}
 use Rattle.lt_model.specs.History.{Numbered, Opening, Entry, row_entry, bound_entry, schema_entry, kept_entry, History, front}
 use Rattle.lt_schema.specs.Versions.{newest_version}
-use Rattle.lt_model.specs.Readings.{rows_in, next, schemas}
+use Rattle.lt_model.specs.Readings.{rows_in, next, schemas, since}
 use Rattle.lt_model.specs.Legal.{IsLegal, EachFollows, MayFollow}
-use Rattle.lt_model.specs.Step.{IsStep, InsertStep, ScanStep, LatestStep, AlterStep, FlushStep, AddsRow}
+use Rattle.lt_model.specs.Step.{IsStep, InsertStep, ScanStep, LatestStep, AlterStep, FlushStep, Settles, UpkeepStep, MayPurge, TabletsStep, AddsRow}
 use Rattle.lt_model.specs.Session.{Mark, seen_after, Stand, IsSession, Client, Block, CommandAnswered, LineAnswered, LinesAnswered, ClientsAnswered, mark_of, Adds, AddedByOneLine, HasOrigin}
 use Rattle.lt_model.specs.Shown.{line_at, reply_at, Inserts, IsAdded, ToldToOneLine, IsGivenSince}
 
@@ -156,13 +156,6 @@ LatestStep-nothing decided now prefix Fault added step = step
 LatestStep-nothing decided now prefix NoMemory added step = step
 LatestStep-nothing decided now prefix _ added step = absurd step
 
-FlushStep-nothing : (decided : History) (tablet : Option ℕ) (reply : Reply) (added : List Entry) → FlushStep decided tablet reply added → added ≡ []
-FlushStep-nothing decided (Some tablet) (NoTablet named) added step = step.2
-FlushStep-nothing decided tablet Spent added step = step
-FlushStep-nothing decided tablet Fault added step = step
-FlushStep-nothing decided tablet NoMemory added step = step
-FlushStep-nothing decided tablet _ added step = absurd step
-
 one_change : {P : Type 0} (change : Change) (added : List Entry) (i : ℕ) (numbered : Numbered) (tablet : ℕ) → added ≡ schema_entry change ∷ [] → slice_get added i ≡ Some (row_entry numbered tablet) → P
 one_change {P} change added i numbered tablet only is = go i (sym is ∙ ap (λ (es : List Entry). slice_get es i) only)
   where
@@ -179,15 +172,56 @@ AlterStep-no_row decided change Fault added i numbered tablet step is = nothing_
 AlterStep-no_row decided change NoMemory added i numbered tablet step is = nothing_there added i (row_entry numbered tablet) step is
 AlterStep-no_row decided change _ added i numbered tablet step is = absurd step
 
+-- an entry of another kind is no row's
+no_row : {P : Type 0} (e : Entry) (added : List Entry) (i : ℕ) (numbered : Numbered) (tablet : ℕ) → (e ≡ row_entry numbered tablet → P) → added ≡ e ∷ [] → slice_get added i ≡ Some (row_entry numbered tablet) → P
+no_row {P} e added i numbered tablet other only is = go i (sym is ∙ ap (λ (es : List Entry). slice_get es i) only)
+  where
+    go : (j : ℕ) → Some (row_entry numbered tablet) ≡ slice_get (e ∷ []) j → P
+    go zero same = other cc
+    go (suc j) same = cc
+
+Settles-no_row : {P : Type 0} (settled : History) (upto : ℕ) (added : List Entry) (i : ℕ) (numbered : Numbered) (tablet : ℕ) → Settles settled upto added
+    → slice_get added i ≡ Some (row_entry numbered tablet) → P
+Settles-no_row settled upto added i numbered tablet (inl none) is = nothing_there added i (row_entry numbered tablet) none.1 is
+Settles-no_row settled upto added i numbered tablet (inr told) is = no_row (kept_entry upto) added i numbered tablet (λ same. cc) told.1 is
+
+FlushStep-no_row : {P : Type 0} (decided settled : History) (which : Option ℕ) (reply : Reply) (added : List Entry) (i : ℕ) (numbered : Numbered) (tablet : ℕ) → FlushStep decided settled which reply added
+    → slice_get added i ≡ Some (row_entry numbered tablet) → P
+FlushStep-no_row decided settled which (Flushed upto tablets) added i numbered tablet step is = Settles-no_row settled upto added i numbered tablet step.2 is
+FlushStep-no_row decided settled (Some one) (NoTablet named) added i numbered tablet step is = nothing_there added i (row_entry numbered tablet) step.2 is
+FlushStep-no_row decided settled which Spent added i numbered tablet step is = nothing_there added i (row_entry numbered tablet) step is
+FlushStep-no_row decided settled which Fault added i numbered tablet step is = nothing_there added i (row_entry numbered tablet) step is
+FlushStep-no_row decided settled which NoMemory added i numbered tablet step is = nothing_there added i (row_entry numbered tablet) step is
+FlushStep-no_row decided settled which _ added i numbered tablet step is = absurd step
+
+MayPurge-no_row : {P : Type 0} (decided : History) (now : ℕ) (added : List Entry) (i : ℕ) (numbered : Numbered) (tablet : ℕ) → MayPurge decided now added
+    → slice_get added i ≡ Some (row_entry numbered tablet) → P
+MayPurge-no_row decided now added i numbered tablet (inl none) is = nothing_there added i (row_entry numbered tablet) none is
+MayPurge-no_row decided now added i numbered tablet (inr raised) is = no_row (bound_entry (since decided now)) added i numbered tablet (λ same. cc) raised is
+
+UpkeepStep-no_row : {P : Type 0} (decided : History) (now : ℕ) (reply : Reply) (added : List Entry) (i : ℕ) (numbered : Numbered) (tablet : ℕ) → UpkeepStep decided now reply added
+    → slice_get added i ≡ Some (row_entry numbered tablet) → P
+UpkeepStep-no_row decided now (Upkept low_after run end swept) added i numbered tablet step is = MayPurge-no_row decided now added i numbered tablet step.may is
+UpkeepStep-no_row decided now Spent added i numbered tablet step is = MayPurge-no_row decided now added i numbered tablet step is
+UpkeepStep-no_row decided now (Damaged file at) added i numbered tablet step is = MayPurge-no_row decided now added i numbered tablet step is
+UpkeepStep-no_row decided now Fault added i numbered tablet step is = MayPurge-no_row decided now added i numbered tablet step is
+UpkeepStep-no_row decided now NoMemory added i numbered tablet step is = MayPurge-no_row decided now added i numbered tablet step is
+UpkeepStep-no_row decided now _ added i numbered tablet step is = absurd step
+
+TabletsStep-nothing : (decided : History) (reply : Reply) (added : List Entry) → TabletsStep decided reply added → added ≡ []
+TabletsStep-nothing decided (TabletsReply listing) added step = step.1
+TabletsStep-nothing decided NoMemory added step = step
+TabletsStep-nothing decided _ added step = absurd step
+
 IsStep-inserts : (decided settled : History) (now : ℕ) (command : Command) (reply : Reply) (added : List Entry) (i : ℕ) (numbered : Numbered) (tablet : ℕ)
     → IsStep decided settled now command reply added → slice_get added i ≡ Some (row_entry numbered tablet) → InsertsRow command reply numbered
 IsStep-inserts decided settled now (Insert row) reply added i numbered tablet step is = InsertStep-inserts decided now row reply added i numbered tablet step.1 is
 IsStep-inserts decided settled now (Scan query) reply added i numbered tablet step is = nothing_there added i (row_entry numbered tablet) (ScanStep-nothing decided now query reply added step.1) is
 IsStep-inserts decided settled now (LatestCommand prefix) reply added i numbered tablet step is = nothing_there added i (row_entry numbered tablet) (LatestStep-nothing decided now prefix reply added step.1) is
-IsStep-inserts decided settled now (Flush which) reply added i numbered tablet step is = nothing_there added i (row_entry numbered tablet) (FlushStep-nothing decided which reply added step) is
-IsStep-inserts decided settled now Upkeep reply added i numbered tablet step is = absurd step
+IsStep-inserts decided settled now (Flush which) reply added i numbered tablet step is = FlushStep-no_row decided settled which reply added i numbered tablet step is
+IsStep-inserts decided settled now Upkeep reply added i numbered tablet step is = UpkeepStep-no_row decided now reply added i numbered tablet step.1 is
 IsStep-inserts decided settled now (Alter change) reply added i numbered tablet step is = AlterStep-no_row decided change reply added i numbered tablet step.1 is
-IsStep-inserts decided settled now Tablets reply added i numbered tablet step is = absurd step
+IsStep-inserts decided settled now Tablets reply added i numbered tablet step is = nothing_there added i (row_entry numbered tablet) (TabletsStep-nothing decided reply added step.1) is
 
 -- a line's own entries stand nowhere before what its client had seen
 goes-later : (clock : ℕ → Type 0) (h : History) (seen : ℕ) (line : Line) (reply : Reply) (mark : Mark) → LineAnswered clock h seen line reply mark → seen ≤ mark.goes

@@ -4,6 +4,7 @@ pub mod Legal
 pub mod Boxes
 pub mod Answer
 pub mod Verdict
+pub mod Disk
 pub mod Step
 pub mod Session
 pub mod Growing

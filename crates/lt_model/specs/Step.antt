@@ -1,7 +1,8 @@
 -- What each command may be answered, and what it adds.
 -- decided is the front at which it is decided, settled the front after which a flush's own entry comes; now is its moment,
 -- and added are its own entries.
-use Rattle.std.specs.Prelude.{ℕ, ◌+◌, ◌≡◌, IsTrue, List, [], ◌∷◌, Option, Some, None}
+use Rattle.std.specs.Prelude.{ℕ, ◌+◌, ◌≡◌, ◌≢◌, ◌≤◌, ◌⊎◌, IsTrue, List, [], ◌∷◌, length, sum_by, Option, Some, None}
+use Rattle.lt_rec.specs.declared.listed.Listed.{Listed}
 use Rattle.lt_schema.specs.declared.value.Value.{Value}
 use Rattle.lt_schema.specs.declared.change.Change.{Change}
 use Rattle.lt_schema.specs.Versions.{newest, newest_version, alter_refusal}
@@ -9,11 +10,12 @@ use Rattle.lt_lang.specs.declared.query.Query.{Query}
 use Rattle.lt_lang.specs.declared.command.Command.{Command}
 use Rattle.lt_lang.specs.declared.command.Command.TheVariants.{Insert, Scan, Latest as LatestCommand, Flush, Upkeep, Alter, Tablets}
 use Rattle.lt_lang.specs.declared.reply.Reply.{Reply}
-use Rattle.lt_lang.specs.declared.reply.Reply.TheVariants.{Inserted, BadRow, TooOld, Present, Spent, Rows, Latest, BadLimit, BadBound, NoTablet, Version, Refused, Damaged, Fault, NoMemory}
-use Rattle.lt_model.specs.History.{Entry, row_entry, schema_entry, History}
-use Rattle.lt_model.specs.Readings.{next, schemas, since, IsInMemory}
+use Rattle.lt_lang.specs.declared.reply.Reply.TheVariants.{Inserted, BadRow, TooOld, Present, Spent, Rows, Latest, BadLimit, BadBound, Flushed, NoTablet, Upkept, Version, Refused, Tablets as TabletsReply, Damaged, Fault, NoMemory}
+use Rattle.lt_model.specs.History.{Entry, row_entry, bound_entry, schema_entry, kept_entry, History, extended}
+use Rattle.lt_model.specs.Readings.{next, low, kept, schemas, since, IsInMemory}
 use Rattle.lt_model.specs.Boxes.{is_limit, query_fault, prefix_fault}
 use Rattle.lt_model.specs.Answer.{IsAnswer, IsLatest}
+use Rattle.lt_model.specs.Disk.{AreFlushed, IsDurable, AllExpire, on_disk}
 use Rattle.lt_model.specs.Verdict.{IsVerdict, bad_row, too_old, present, spent, accepted}
 
 -- the accepted row with the next number and the newest version, in some tablet
@@ -71,19 +73,52 @@ AlterStep decided change Fault added = added ≡ []
 AlterStep decided change NoMemory added = added ≡ []
 AlterStep decided change _ added = ⊥
 
--- the answers of flushes, upkeeps and listings are not told yet
-abbrev pub FlushStep : History → Option ℕ → Reply → List Entry → Type 0
-FlushStep decided (Some tablet) (NoTablet named) added = (named ≡ tablet) × (¬ IsInMemory decided tablet) × (added ≡ [])
-FlushStep decided tablet Spent added = added ≡ []
-FlushStep decided tablet Fault added = added ≡ []
-FlushStep decided tablet NoMemory added = added ≡ []
-FlushStep decided tablet _ added = ⊥
+-- an entry that tells the settled number, where the front after which it stands does not tell it already
+abbrev pub Settles : History → ℕ → List Entry → Type 0
+Settles settled upto added = ((upto ≡ kept settled) × (added ≡ [])) ⊎ ((upto ≢ kept settled) × (added ≡ kept_entry upto ∷ []))
+
+abbrev pub FlushStep : History → History → Option ℕ → Reply → List Entry → Type 0
+FlushStep decided settled which (Flushed upto tablets) added = AreFlushed decided which tablets × IsDurable decided which tablets upto × Settles settled upto added
+FlushStep decided settled (Some tablet) (NoTablet named) added = (named ≡ tablet) × (¬ IsInMemory decided tablet) × (added ≡ [])
+FlushStep decided settled which Spent added = added ≡ []
+FlushStep decided settled which Fault added = added ≡ []
+FlushStep decided settled which NoMemory added = added ≡ []
+FlushStep decided settled which _ added = ⊥
+
+-- at most the bound of that moment is added
+abbrev pub MayPurge : History → ℕ → List Entry → Type 0
+MayPurge decided now added = (added ≡ []) ⊎ (added ≡ bound_entry (since decided now) ∷ [])
+
+-- the bound is raised where some row on disk is unexpired so far and none is any more; the low after that is told
+pub record Purges (decided : History) (now low_after : ℕ) (added : List Entry) : Type 0 where
+  pub may : MayPurge decided now added
+  pub has_to : AllExpire decided now → added ≡ bound_entry (since decided now) ∷ []
+  pub low_is : low_after ≡ low (extended decided added)
+
+-- an upkeep that is refused may have raised the bound before
+abbrev pub UpkeepStep : History → ℕ → Reply → List Entry → Type 0
+UpkeepStep decided now (Upkept low_after run end swept) added = Purges decided now low_after added
+UpkeepStep decided now Spent added = MayPurge decided now added
+UpkeepStep decided now (Damaged file at) added = MayPurge decided now added
+UpkeepStep decided now Fault added = MayPurge decided now added
+UpkeepStep decided now NoMemory added = MayPurge decided now added
+UpkeepStep decided now _ added = ⊥
+
+-- the listed tablets hold the rows on disk, and beside them only rows that a bound has expired
+pub record HoldsDurable (decided : History) (listing : List Listed) : Type 0 where
+  pub at_least : length (on_disk decided) ≤ sum_by (λ tablet. tablet.rows) listing
+  pub exactly : low decided ≡ 0 → sum_by (λ tablet. tablet.rows) listing ≡ length (on_disk decided)
+
+abbrev pub TabletsStep : History → Reply → List Entry → Type 0
+TabletsStep decided (TabletsReply listing) added = HoldsDurable decided listing × (added ≡ [])
+TabletsStep decided NoMemory added = added ≡ []
+TabletsStep decided _ added = ⊥
 
 abbrev pub IsStep : History → History → ℕ → Command → Reply → List Entry → Type 0
 IsStep decided settled now (Insert row) reply added = (settled ≡ decided) × InsertStep decided now row reply added
 IsStep decided settled now (Scan query) reply added = (settled ≡ decided) × ScanStep decided now query reply added
 IsStep decided settled now (LatestCommand prefix) reply added = (settled ≡ decided) × LatestStep decided now prefix reply added
-IsStep decided settled now (Flush tablet) reply added = FlushStep decided tablet reply added
-IsStep decided settled now Upkeep reply added = ⊥
+IsStep decided settled now (Flush which) reply added = FlushStep decided settled which reply added
+IsStep decided settled now Upkeep reply added = (settled ≡ decided) × UpkeepStep decided now reply added
 IsStep decided settled now (Alter change) reply added = (settled ≡ decided) × AlterStep decided change reply added
-IsStep decided settled now Tablets reply added = ⊥
+IsStep decided settled now Tablets reply added = (settled ≡ decided) × TabletsStep decided reply added
