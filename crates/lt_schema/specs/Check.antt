@@ -1,5 +1,5 @@
 -- When a row passes a schema, and its key and timestamp.
-use Rattle.std.specs.Prelude.{ℕ, ◌+◌, ◌-◌, ◌≡◌, Bool, true, false, List, [], ◌∷◌, length, take, drop, nat_lt, nat_eq, sum_by, Option, Some, None, option_and_then, slice_get, if◌then◌else◌}
+use Rattle.std.specs.Prelude.{ℕ, ◌+◌, ◌-◌, ◌^◌, min, ◌≡◌, Bool, true, false, List, [], ◌∷◌, length, take, drop, nat_lt, nat_eq, sum_by, Option, Some, None, option_and_then, slice_get, if◌then◌else◌}
 use Rattle.std.specs.Option.{option_map, option_map_or}
 use Rattle.lt_schema.specs.declared.row.RowFault.{RowFault}
 use Rattle.lt_schema.specs.declared.row.RowFault.TheVariants.{Arity, WrongKind, KeyLong, BodyLong}
@@ -35,10 +35,14 @@ len_under (column ∷ columns) (value ∷ row) = body_len_of column.kind value +
 abbrev pub body_len_in_bytes : SchemaShape → List Value → ℕ
 body_len_in_bytes schema row = len_under (drop schema.key_len schema.columns) (drop schema.key_len row)
 
+-- a number of bytes as it is told: it stands still at the end of 64 bits
+abbrev pub counted : ℕ → ℕ
+counted n = min n (2 ^ 64 - 1)
+
 abbrev pub length_fault : SchemaShape → List Value → Option RowFault
 length_fault schema row =
-    if nat_lt 4096 (key_len_in_bytes schema row) then Some (KeyLong (key_len_in_bytes schema row)) else
-    (if nat_lt 60000 (body_len_in_bytes schema row) then Some (BodyLong (body_len_in_bytes schema row)) else None)
+    if nat_lt 4096 (key_len_in_bytes schema row) then Some (KeyLong (counted (key_len_in_bytes schema row))) else
+    (if nat_lt 60000 (body_len_in_bytes schema row) then Some (BodyLong (counted (body_len_in_bytes schema row))) else None)
 
 abbrev pub kind_fault : Option ℕ → Option RowFault → Option RowFault
 kind_fault None other = other

@@ -4,3 +4,4 @@ pub mod Shapes
 pub mod Lawful
 pub mod Versions
 pub mod Check
+pub mod Orders

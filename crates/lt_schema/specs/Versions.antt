@@ -1,6 +1,7 @@
 -- The versions of a schema, what a change does, and what a row becomes under later versions.
-use Rattle.std.specs.Prelude.{ℕ, ◌-◌, ◌≡◌, Bool, true, false, not, List, [], ◌∷◌, ◌++◌, length, take, drop, map, fold, find, nat_le, Option, Some, None, if◌then◌else◌}
+use Rattle.std.specs.Prelude.{ℕ, ◌-◌, ◌≡◌, Bool, true, false, not, ◌&&◌, List, [], ◌∷◌, ◌++◌, length, take, drop, map, fold, find, nat_le, Option, Some, None, if◌then◌else◌}
 use Rattle.std.specs.List.{list_any}
+use Rattle.std.specs.Option.{is_none}
 use Rattle.lt_schema.specs.declared.kind.Kind.{Kind}
 use Rattle.lt_schema.specs.declared.kind.Kind.TheVariants.{Int32, Int64, Time, Text as TextKind, Blob as BlobKind}
 use Rattle.lt_schema.specs.declared.value.Value.{Value}
@@ -9,7 +10,8 @@ use Rattle.lt_schema.specs.declared.change.Change.TheVariants.{Append, Widen}
 use Rattle.lt_schema.specs.declared.change.AlterError.{AlterError}
 use Rattle.lt_schema.specs.declared.change.AlterError.TheVariants.{Exists, TooMany, BadDefault, NoColumn, NotInt32}
 use Rattle.lt_schema.specs.Shapes.{ColumnShape, SchemaShape}
-use Rattle.lt_schema.specs.Lawful.{has_name, has_lawful_default}
+use Rattle.lt_schema.specs.Names.{is_name}
+use Rattle.lt_schema.specs.Lawful.{has_name, has_lawful_default, is_schema}
 
 -- the first schema and the changes since; version v is the schema after v of them
 pub record SchemaVersions : Type 0 where
@@ -69,3 +71,32 @@ alter_refusal schema (Append column) =
     (if nat_le 64 (length schema.columns) then Some TooMany else
     (if has_lawful_default column then None else Some BadDefault))
 alter_refusal schema (Widen name) = widening_refusal (find (has_name name) schema.columns)
+
+abbrev pub has_lawful_name : Change → Bool
+has_lawful_name (Append column) = is_name column.name
+has_lawful_name (Widen name) = true
+
+-- a column of a lawful name, or a widening, that the schema does not refuse
+abbrev pub is_admitted : SchemaShape → Change → Bool
+is_admitted schema change = is_none (alter_refusal schema change) && has_lawful_name change
+
+-- each change is admitted by the version before it
+abbrev pub are_admitted : SchemaShape → List Change → Bool
+are_admitted schema [] = true
+are_admitted schema (change ∷ changes) = is_admitted schema change && are_admitted (changed schema change) changes
+
+abbrev pub is_versions : SchemaVersions → Bool
+is_versions versions = is_schema versions.first && are_admitted versions.first versions.changes
+
+-- the schemas after each of the changes
+abbrev pub after_each : SchemaShape → List Change → List SchemaShape
+after_each schema [] = []
+after_each schema (change ∷ changes) = changed schema change ∷ after_each (changed schema change) changes
+
+-- all versions, from the first on
+abbrev pub all_versions : SchemaVersions → List SchemaShape
+all_versions versions = versions.first ∷ after_each versions.first versions.changes
+
+abbrev pub first_of : List SchemaShape → SchemaShape
+first_of [] = record { columns = []; key_len = 0 }
+first_of (schema ∷ schemas) = schema

@@ -1,5 +1,8 @@
+ghost use Rattle.std.specs.Prelude.{◌≡◌};
+
 use crate::Column;
 use lt_rec::Label;
+use std::alloc::AllocError;
 
 /// A change of a schema.
 #[derive(Debug, Drop)]
@@ -8,6 +11,17 @@ pub enum Change {
     Append(Column),
     /// The column of this name, of 32 bits, gets 64.
     Widen(Label),
+}
+
+impl Clone for Change {
+    ghost is_clone = { λ x y. x ≡ y };
+
+    fn clone(&self) -> Result<Change, AllocError> {
+        match self {
+            Change::Append(column) => Ok(Change::Append(column.clone()?)),
+            Change::Widen(name) => Ok(Change::Widen(name.clone()?)),
+        }
+    }
 }
 
 /// Why a change is not admitted: the first of these that holds.

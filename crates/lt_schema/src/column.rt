@@ -1,5 +1,9 @@
+ghost use Rattle.std.specs.Prelude.{◌≡◌};
+ghost use Rattle.lt_schema.specs.Lawful.{is_short};
+
 use crate::{Kind, Value};
 use lt_rec::Label;
+use std::alloc::{AllocError, Global};
 use std::marker::Model;
 
 /// A column of a lawful name: 1 to 64 of `a` to `z`, `0` to `9` and `_`, a letter first.
@@ -25,6 +29,11 @@ impl Model for Column {
 impl Column {
     ghost use Rattle.std.specs.Prelude.{◌≡◌, IsTrue};
     ghost use Rattle.lt_schema.specs.Names.{is_name};
+    ghost use Rattle.lt_schema.specs.Lawful.{has_lawful_default};
+    ghost use Rattle.lt_schema.specs.declared.kind.Kind.TheVariants.{Int64};
+
+    /// The most bytes of a default that is a text or bytes.
+    pub const LONGEST_DEFAULT: usize = 1_024;
 
     /// A column with the value that rows written before it take.
     pub fn new(name: Label, kind: Kind, default: Value) -> Column
@@ -55,6 +64,44 @@ impl Column {
         ensures { result.now ≡ self.now.default }
     {
         &self.default
+    }
+
+    /// Whether the default is of the column's kind, and as a text or bytes has at most 1,024 bytes. Takes no memory.
+    pub fn has_lawful_default(&self) -> bool
+        ensures { result ≡ has_lawful_default self.now }
+    {
+        self.kind.has(&self.default) && is_short(&self.default)
+    }
+
+    /// The same column with integers of 64 bits.
+    pub fn widen(&mut self)
+        ensures { self.new ≡ record self.old { kind = Int64 } }
+    {
+        self.kind = Kind::Int64;
+    }
+}
+
+fn is_short(value: &Value) -> bool
+    ensures { result ≡ is_short value.now }
+{
+    match value {
+        Value::Int(_) => true,
+        Value::Text(text) => text.len() <= Column::LONGEST_DEFAULT,
+        Value::Blob(bytes) => bytes.len() <= Column::LONGEST_DEFAULT,
+    }
+}
+
+impl Clone for Column {
+    ghost use Rattle.std.specs.Prelude.{◌≡◌};
+
+    ghost is_clone = { λ x y. x ≡ y };
+
+    fn clone(&self) -> Result<Column, AllocError> {
+        Ok(Column {
+            name: self.name.clone()?,
+            kind: self.kind,
+            default: self.default.clone()?,
+        })
     }
 }
 
@@ -95,5 +142,24 @@ impl Columns {
         ensures { result.now ≡ self.now }
     {
         self.columns.as_slice()
+    }
+
+    /// The allocator that the columns came from.
+    pub fn allocator(&self) -> Global {
+        *self.columns.allocator()
+    }
+}
+
+impl Clone for Columns {
+    ghost use Rattle.std.specs.Prelude.{◌≡◌};
+
+    ghost is_clone = { λ x y. x ≡ y };
+
+    fn clone(&self) -> Result<Columns, AllocError> {
+        let mut columns = Vec::with_capacity(*self.columns.allocator(), self.columns.len())?;
+        for column in self.columns.as_slice() {
+            columns.push(column.clone()?)?;
+        }
+        Ok(Columns { columns })
     }
 }

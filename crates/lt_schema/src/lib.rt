@@ -3,10 +3,13 @@
 #![tactic(auto)]
 
 mod change;
+mod changing;
+mod checking;
 mod column;
 mod kind;
 mod row;
 mod schema;
+mod schemas;
 mod value;
 
 pub use change::{AlterError, Change};
@@ -14,4 +17,5 @@ pub use column::{Column, Columns};
 pub use kind::Kind;
 pub use row::{Row, RowFault, Rows};
 pub use schema::Schema;
-pub use value::Value;
+pub use schemas::Schemas;
+pub use value::{Value, key_cmp};

@@ -1,4 +1,5 @@
 use crate::Columns;
+use std::alloc::AllocError;
 use std::marker::Model;
 
 /// A lawful schema: 1 to 64 columns of different names, of which the first `key_len` are the key;
@@ -43,5 +44,18 @@ impl Schema {
         ensures { result ≡ self.now.key_len }
     {
         self.key_len
+    }
+}
+
+impl Clone for Schema {
+    ghost use Rattle.std.specs.Prelude.{◌≡◌};
+
+    ghost is_clone = { λ x y. x ≡ y };
+
+    fn clone(&self) -> Result<Schema, AllocError> {
+        Ok(Schema {
+            columns: self.columns.clone()?,
+            key_len: self.key_len,
+        })
     }
 }

@@ -1,7 +1,9 @@
 ghost use Rattle.std.specs.Prelude.{◌≡◌};
+ghost use Rattle.lt_schema.specs.Values.{key_cmp};
 
 use lt_rec::{Label, Octets};
 use std::alloc::AllocError;
+use std::cmp::Ordering;
 
 /// A value. Integers are ordered by number, texts and bytes by their bytes with a proper prefix first.
 #[derive(Debug, Drop, PartialEq, Eq, PartialOrd, Ord)]
@@ -21,4 +23,11 @@ impl Clone for Value {
             Value::Blob(bytes) => Ok(Value::Blob(bytes.clone()?)),
         }
     }
+}
+
+/// The order of two keys, or of any lists of values: value by value, a proper prefix first.
+pub fn key_cmp(a: &[Value], b: &[Value]) -> Ordering
+    ensures { result ≡ key_cmp a.now b.now }
+{
+    a.cmp(b)
 }
