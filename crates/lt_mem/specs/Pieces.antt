@@ -1,9 +1,10 @@
 -- Rising records in pieces.
-use Rattle.std.specs.Prelude.{◌≡◌, ℕ, ◌+◌, ◌<◌, ◌≤◌, ◌⊎◌, true, List, [], ◌∷◌, length, take, slice_index_or}
+use Rattle.std.specs.Prelude.{◌≡◌, ℕ, ◌+◌, ◌-◌, ◌<◌, ◌≤◌, ◌⊎◌, Bool, true, ◌&&◌, nat_le, List, [], ◌∷◌, ◌++◌, length, take, slice_index_or}
 use Rattle.std.specs.List.{All}
 use Rattle.lt_rec.specs.Bytes.{is_less}
 use Rattle.lt_rec.specs.Record.{Record}
 use Rattle.lt_rec.specs.Records.{joined}
+use Rattle.lt_rec.specs.declared.raw_box.RawBox.{RawBox}
 use Rattle.lt_mem.specs.Rising.{IsRising}
 
 abbrev pub first_key : List Record → List ℕ
@@ -40,3 +41,20 @@ pub record IsFound (ps : List (List Record)) (key : List ℕ) (at place : ℕ) :
   pub held : at < length ps
   pub within : place < length (piece_at ps at)
   pub same : (d : Record) → (slice_index_or (piece_at ps at) place d).key ≡ key
+
+-- the timestamps of all records lie between these
+abbrev pub AreWithin : List Record → ℕ → ℕ → Type 0
+AreWithin recs low high = All (λ r. (low ≤ r.ts) × (r.ts ≤ high)) recs
+
+-- a list that grows up to a limit, and how many more it takes
+pub record Growing : Type 0 where
+  pub list : List Record
+  pub left : ℕ
+
+-- with the first of these records, as many as there is room for
+abbrev pub grown : Growing → List Record → Growing
+grown front recs = record { list = front.list ++ take front.left recs; left = front.left - length recs }
+
+-- the record's timestamp is one of the box's times
+abbrev pub has_time : RawBox → Record → Bool
+has_time area r = nat_le area.from r.ts && nat_le r.ts area.to

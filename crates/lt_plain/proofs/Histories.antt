@@ -1,10 +1,9 @@
 -- What the history of a list of rows says.
-use Rattle.std.proofs.Common.{◌≡◌, ◌⊎◌, ℕ, ◌+◌, ◌≤◌, max, Bool, true, IsTrue, List, [], ◌∷◌, ◌++◌, length, refl, sym, ◌∙◌, ap, cond, inl, inr, map, filter, arith, zero-add, add-zero, suc}
-use Rattle.std.specs.List.{list_any}
+use Rattle.std.proofs.Common.{◌≡◌, ◌⊎◌, ℕ, ◌+◌, List, [], ◌∷◌, ◌++◌, length, refl, ◌∙◌, ap, inl, inr, arith, zero-add, add-zero, suc}
 use Rattle.lt_schema.specs.declared.value.Value.{Value}
 use Rattle.lt_lang.specs.Table.{table_schema}
-use Rattle.lt_model.specs.History.{Numbered, Entry, row_entry, History, extended}
-use Rattle.lt_model.specs.Readings.{rows, rows_in, next, low, low_in, kept, kept_in, changes_in, schemas, since, notes_in, in_memory, IsInMemory, next_tablet}
+use Rattle.lt_model.specs.History.{row_entry, extended}
+use Rattle.lt_model.specs.Readings.{rows, rows_in, next, low, low_in, kept, kept_in, changes_in, schemas, since, IsInMemory, next_tablet}
 use Rattle.lt_plain.specs.Plain.{empty_table, numbered_from, entries_from, history_of}
 
 pub rows_in-entries_from : (n : ℕ) (rs : List (List Value)) → rows_in (entries_from n rs) ≡ numbered_from n rs

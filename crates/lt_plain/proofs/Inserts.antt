@@ -1,5 +1,5 @@
 -- What an insert into a list of rows answers.
-use Rattle.std.proofs.Common.{◌≡◌, ◌≢◌, ◌⊎◌, ℕ, ◌+◌, ◌^◌, ◌<◌, ◌≤◌, List, [], ◌∷◌, ◌++◌, length, take, refl, sym, ◌∙◌, ap, subst, arith}
+use Rattle.std.proofs.Common.{◌≡◌, ◌≢◌, ℕ, ◌^◌, ◌<◌, ◌≤◌, List, [], ◌∷◌, ◌++◌, length, take, refl, sym, ◌∙◌, ap, subst, arith}
 use Rattle.std.specs.Prelude.{All}
 use Rattle.std.specs.List.{HoldsAt}
 use Rattle.std.proofs.lemmas.List.{append-nil}
@@ -9,12 +9,12 @@ use Rattle.lt_schema.specs.Check.{Passes}
 use Rattle.lt_lang.specs.Table.{table_schema}
 use Rattle.lt_lang.specs.declared.command.Command.TheVariants.{Insert}
 use Rattle.lt_lang.specs.declared.reply.Reply.TheVariants.{Inserted, Present, Spent}
-use Rattle.lt_model.specs.History.{Numbered, Entry, row_entry, History, extended}
+use Rattle.lt_model.specs.History.{Entry, row_entry, History, extended}
 use Rattle.lt_model.specs.Readings.{next, schemas}
 use Rattle.lt_model.specs.Legal.{IsLegal}
 use Rattle.lt_model.specs.Verdict.{IsTimely, IsVerdict, accepted}
 use Rattle.lt_model.proofs.Lawful.{IsLegal-accepted}
-use Rattle.lt_plain.specs.Plain.{empty_table, entries_from, history_of, AnswersBy}
+use Rattle.lt_plain.specs.Plain.{history_of, AnswersBy}
 use Rattle.lt_plain.proofs.Histories.{next-history_of, since-history_of, schemas-history_of, history_of-append, tablet-history_of}
 use Rattle.lt_plain.proofs.Keys.{HasKey-at, HasNewKey-all}
 

@@ -1,10 +1,9 @@
 -- Keys of the rows of a list, and of its history.
-use Rattle.std.proofs.Common.{◌≡◌, ◌≢◌, ℕ, zero, suc, ◌+◌, ◌<◌, ◌≤◌, List, [], ◌∷◌, length, get_or, take, refl, sym, ◌∙◌, ap, subst, arith, add-zero, zero-add}
+use Rattle.std.proofs.Common.{◌≡◌, ◌≢◌, ℕ, zero, suc, ◌+◌, ◌<◌, List, [], ◌∷◌, length, get_or, take, refl, sym, ◌∙◌, ap, arith, add-zero, zero-add}
 use Rattle.std.specs.Prelude.{Contains, All}
 use Rattle.std.specs.List.{HoldsAt}
 use Rattle.lt_schema.specs.declared.value.Value.{Value}
 use Rattle.lt_model.specs.History.{Numbered}
-use Rattle.lt_model.specs.Readings.{rows}
 use Rattle.lt_model.specs.Verdict.{HasKey, HasNewKey}
 use Rattle.lt_plain.specs.Plain.{numbered_from, history_of}
 use Rattle.lt_plain.proofs.Histories.{rows-history_of, length-numbered_from}

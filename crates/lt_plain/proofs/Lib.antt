@@ -3,3 +3,4 @@ pub mod Histories
 pub mod Keys
 pub mod Inserts
 pub mod Scans
+pub mod Steps

@@ -1,5 +1,5 @@
 -- What a scan of a list of rows answers.
-use Rattle.std.proofs.Common.{◌≡◌, ◌≢◌, ℕ, zero, suc, ◌+◌, ◌-◌, ◌^◌, ◌<◌, ◌≤◌, ◌↔◌, Bool, true, false, IsTrue, cond, ◌&&◌, nat_lt, nat_le, List, [], ◌∷◌, ◌++◌, length, take, drop, map, filter, Option, Some, None, refl, sym, ◌∙◌, ap, subst, arith}
+use Rattle.std.proofs.Common.{◌≡◌, ℕ, ◌+◌, ◌-◌, ◌^◌, ◌<◌, ◌≤◌, ◌↔◌, Bool, true, false, IsTrue, cond, ◌&&◌, nat_lt, nat_le, List, [], ◌∷◌, length, take, drop, map, filter, Option, Some, None, refl, sym, ◌∙◌, ap, subst, arith}
 use Rattle.std.specs.Prelude.{IsPermutation, IsSorted}
 use Rattle.std.specs.List.{AllByRecursion}
 use Rattle.std.proofs.lemmas.List.{append-nil}
@@ -16,13 +16,13 @@ use Rattle.lt_lang.specs.Table.{table_schema}
 use Rattle.lt_lang.specs.Grammar.{whole_table}
 use Rattle.lt_lang.specs.declared.command.Command.TheVariants.{Scan}
 use Rattle.lt_lang.specs.declared.reply.Reply.TheVariants.{Rows}
-use Rattle.lt_model.specs.History.{Numbered, History, extended}
-use Rattle.lt_model.specs.Readings.{rows, time_in}
+use Rattle.lt_model.specs.History.{Numbered, History}
+use Rattle.lt_model.specs.Readings.{time_in}
 use Rattle.lt_model.specs.Boxes.{in_box}
-use Rattle.lt_model.specs.Answer.{newest_form, matching, IsAnswer}
+use Rattle.lt_model.specs.Answer.{newest_form, matching}
 use Rattle.lt_plain.specs.Plain.{numbered_from, history_of, AreTableRows, AnswersBy}
 use Rattle.lt_plain.specs.Order.{by_key}
-use Rattle.lt_plain.proofs.Histories.{rows-history_of, next-history_of, since-history_of, changes_in-entries_from, schemas-history_of}
+use Rattle.lt_plain.proofs.Histories.{rows-history_of, next-history_of, since-history_of, changes_in-entries_from}
 
 third_is_right : (p q t : Bool) (others : Option ℕ) (fault : Option RowFault) → kind_fault (cond p (cond q (cond t others (Some 2)) (Some 1)) (Some 0)) fault ≡ None → t ≡ true
 third_is_right true true true others fault e = refl

@@ -1,5 +1,5 @@
 -- Rows by their keys.
-use Rattle.std.specs.Prelude.{◌≡◌, Bool, List, take, Option, Some, refl}
+use Rattle.std.specs.Prelude.{◌≡◌, Bool, List, take, Some, refl}
 use Rattle.std.specs.Ordering.{eq_by_cmp, on, ordering_reverse}
 use Rattle.std.specs.declared.cmp.Ordering.TheVariants.{Less, Equal}
 use Rattle.std.specs.declared.cmp.Ordering.{Ordering}

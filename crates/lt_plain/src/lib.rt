@@ -2,7 +2,10 @@
 //! Faster bodies are compared with it.
 #![tactic(auto)]
 
+mod boxes;
 mod keyed;
+mod rows;
+mod stored;
 mod table;
 
 pub use table::PlainTable;

@@ -1,4 +1,4 @@
-use Rattle.std.proofs.Common.{◌≡◌, ◌≢◌, ℕ, ◌<◌, List, get_or, take}
+use Rattle.std.proofs.Common.{◌≢◌, ℕ, ◌<◌, List, get_or, take}
 use Rattle.lt_schema.specs.declared.value.Value.{Value}
 use Rattle.lt_plain.proofs.table.place_of_key.Given as goal
 

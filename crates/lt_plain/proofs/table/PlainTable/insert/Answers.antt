@@ -1,4 +1,4 @@
-use Rattle.std.proofs.Common.{arith, sym, ◌∙◌, ◌≡◌, ◌≢◌, ◌<◌, ◌^◌, ◌++◌, ◌∷◌, [], length, subst, take, ap}
+use Rattle.std.proofs.Common.{arith, sym, ◌∙◌, ◌≡◌, ◌≢◌, ◌<◌, ◌++◌, ◌∷◌, [], length, subst, take, ap}
 use Rattle.std.specs.Prelude.{All}
 use Rattle.std.specs.List.{HoldsAt}
 use Rattle.lt_lang.specs.declared.command.Command.TheVariants.{Insert}

@@ -1,0 +1,62 @@
+-- For which histories a plain table stands, and what it answers then.
+use Rattle.std.specs.Prelude.{ℕ, ◌≡◌, ◌≢◌, ◌≤◌, ◌<◌, ◌^◌, Bool, ◌&&◌, List, length, take, map, filter, nat_le, nat_lt, All, IsSorted, IsPermutation}
+use Rattle.lt_schema.specs.declared.value.Value.{Value}
+use Rattle.lt_schema.specs.Shapes.{SchemaShape}
+use Rattle.lt_schema.specs.Versions.{SchemaVersions, newest, lift_to_newest}
+use Rattle.lt_schema.specs.Check.{Passes, key_of, time_of}
+use Rattle.lt_lang.specs.declared.query.Query.{Query}
+use Rattle.lt_lang.specs.declared.command.Command.{Command}
+use Rattle.lt_lang.specs.declared.reply.Reply.{Reply}
+use Rattle.lt_model.specs.History.{Numbered, Opening, Entry, History, extended}
+use Rattle.lt_model.specs.Readings.{rows, next, low, kept, schemas, life, bound_at}
+use Rattle.lt_model.specs.Boxes.{meets_low, meets_high}
+use Rattle.lt_model.specs.Answer.{row_cmp}
+use Rattle.lt_model.specs.Legal.{IsLegal}
+use Rattle.lt_model.specs.Step.{IsStep}
+
+-- what a history says by now, as an opening that finds all of it
+abbrev pub state_of : History → Opening
+state_of h = record { schemas = schemas h; life = life h; low = low h; next = next h; kept = kept h; rows = rows h }
+
+-- a table that holds this stands for the history
+abbrev pub StandsFor : Opening → History → Type 0
+StandsFor held h = state_of h ≡ held
+
+-- a command is decided at the end of the history, which gains what the command adds and stays legal; the table stands for it then
+pub record IsAnswered (h : History) (new : Opening) (now : ℕ) (command : Command) (reply : Reply) : Type 0 where
+  pub added : List Entry
+  pub step : IsStep h h now command reply added
+  pub stands : StandsFor new (extended h added)
+  pub legal : IsLegal (extended h added)
+
+-- so it is for each legal history that the table stood for
+abbrev pub Answers : Opening → Opening → ℕ → Command → Reply → Type 0
+Answers old new now command reply = (h : History) → IsLegal h → StandsFor old h → IsAnswered h new now command reply
+
+-- the row's key meets both edges, and its timestamp is one of the times
+abbrev pub box_has : SchemaShape → Query → List Value → Bool
+box_has schema query row =
+    meets_low query.lo (key_of schema row) && meets_high query.hi (key_of schema row)
+    && nat_le query.from (time_of schema row) && nat_le (time_of schema row) query.to
+
+abbrev pub is_shown : SchemaShape → Query → ℕ → Numbered → Bool
+is_shown schema query since numbered = box_has schema query numbered.row && nat_le since (time_of schema numbered.row)
+
+-- the box's unexpired rows among these, under the newest schema
+abbrev pub shown_of : SchemaVersions → Query → ℕ → List Numbered → List (List Value)
+shown_of versions query since numbered = map (λ one. lift_to_newest versions one.row one.ver) (filter (is_shown versions.first query since) numbered)
+
+-- the first of the box's unexpired rows in key order, up to the limit, and whether there are others
+pub record IsPage (versions : SchemaVersions) (query : Query) (since : ℕ) (numbered : List Numbered) (shown : List (List Value)) (more : Bool) : Type 0 where
+  pub sorted : List (List Value)
+  pub all_of_them : IsPermutation (shown_of versions query since numbered) sorted
+  pub in_order : IsSorted (row_cmp versions.first query.down) sorted
+  pub first_ones : shown ≡ take query.limit sorted
+  pub others : more ≡ nat_lt query.limit (length sorted)
+
+-- no verdict refuses the row: it passes, is unexpired, its key is new, and a number is left
+pub record MayAdd (held : Opening) (row : List Value) (now : ℕ) : Type 0 where
+  pub passes : Passes (newest held.schemas) row
+  pub unexpired : bound_at held.life held.low now ≤ time_of held.schemas.first row
+  pub new_key : All (λ (other : Numbered). key_of held.schemas.first other.row ≢ key_of held.schemas.first row) held.rows
+  pub room : held.next < 2 ^ 62
