@@ -1,0 +1,7 @@
+//! Tablet files: blocks of records with rising keys, an index, a filter and a footer. A file is read exactly where its
+//! bytes are one and agree with its listing; else the first broken rule is named by its offset.
+#![tactic(auto)]
+
+mod laws;
+
+pub use laws::file_laws;
