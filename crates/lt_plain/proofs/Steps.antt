@@ -69,19 +69,21 @@ pub answers_present : (held : Opening) (row : List Value) (now at : ℕ) (found 
     → at < length held.rows → found ≡ get_or held.rows at found → HoldsAt (λ (other : Numbered). key_of held.schemas.first other.row ≡ key_of held.schemas.first row) held.rows at
     → Answers held held now (Insert row) (Present found.seq)
 answers_present held row now at found passes unexpired below is same h legal stands =
-    nothing_added h held now (Insert row) (Present found.seq) legal stands
-    (refl, (
-      (
-        IsTimely-held held row now h stands passes unexpired,
-        record {
-          found = found;
-          among = subst (λ (o : Opening). Contains o.rows found) (sym stands) (at, below, sym is);
-          same_key = subst (λ (o : Opening). key_of o.schemas.first found.row ≡ key_of o.schemas.first row) (sym stands) (ap (λ (n : Numbered). key_of held.schemas.first n.row) is ∙ same found);
-          number = refl;
-        },
-      ),
+    nothing_added h held now (Insert row) (Present found.seq) legal stands (
       refl,
-    ))
+      (
+        (
+          IsTimely-held held row now h stands passes unexpired,
+          record {
+            found = found;
+            among = subst (λ (o : Opening). Contains o.rows found) (sym stands) (at, below, sym is);
+            same_key = subst (λ (o : Opening). key_of o.schemas.first found.row ≡ key_of o.schemas.first row) (sym stands) (ap (λ (n : Numbered). key_of held.schemas.first n.row) is ∙ same found);
+            number = refl;
+          },
+        ),
+        refl,
+      ),
+    )
 
 new_key_of : (held : Opening) (row : List Value) → All (λ (other : Numbered). key_of held.schemas.first other.row ≢ key_of held.schemas.first row) held.rows
     → (other : Numbered) → Contains held.rows other → key_of held.schemas.first other.row ≢ key_of held.schemas.first row
@@ -133,27 +135,29 @@ answers_bad_bound held query now fault right is h legal stands =
 rows_now : (h : History) (query : Query) (now : ℕ) (shown : List (List Value)) (more : Bool) → IsLegal h → IsTrue (is_limit query.limit) → query_fault (newest (schemas h)) query ≡ None
     → IsPage (schemas h) query (since h now) (rows h) shown more → IsAnswered h (state_of h) now (Scan query) (Rows shown more (next h) (since h now))
 rows_now h query now shown more legal right bounds page =
-    nothing_added h (state_of h) now (Scan query) (Rows shown more (next h) (since h now)) legal refl
-    (refl, (
-      record { limit = right; bounds = bounds; place_is = refl; bound_is = refl },
-      record {
-        sorted = page.sorted;
-        all_of_them = page.all_of_them;
-        in_order = page.in_order;
-        first_ones = page.first_ones;
-        others = (
-          λ told. (Decides-ltb query.limit (length page.sorted)).0 (sym page.others ∙ told),
-          λ less. page.others ∙ (Decides-ltb query.limit (length page.sorted)).1 less,
-        );
-      },
+    nothing_added h (state_of h) now (Scan query) (Rows shown more (next h) (since h now)) legal refl (
       refl,
-    ))
+      (
+        record { limit = right; bounds = bounds; place_is = refl; bound_is = refl },
+        record {
+          sorted = page.sorted;
+          all_of_them = page.all_of_them;
+          in_order = page.in_order;
+          first_ones = page.first_ones;
+          others = (
+            λ told. (Decides-ltb query.limit (length page.sorted)).0 (sym page.others ∙ told),
+            λ less. page.others ∙ (Decides-ltb query.limit (length page.sorted)).1 less,
+          );
+        },
+        refl,
+      ),
+    )
 
 pub answers_rows : (held : Opening) (query : Query) (now : ℕ) (shown : List (List Value)) (more : Bool) → IsTrue (is_limit query.limit) → query_fault (newest held.schemas) query ≡ None
     → IsPage held.schemas query (bound_at held.life held.low now) held.rows shown more → Answers held held now (Scan query) (Rows shown more held.next (bound_at held.life held.low now))
 answers_rows held query now shown more right bounds page h legal stands =
     subst (λ (o : Opening). query_fault (newest o.schemas) query ≡ None → IsPage o.schemas query (bound_at o.life o.low now) o.rows shown more
-        → IsAnswered h o now (Scan query) (Rows shown more o.next (bound_at o.life o.low now))) stands
+    → IsAnswered h o now (Scan query) (Rows shown more o.next (bound_at o.life o.low now))) stands
     (λ fits is. rows_now h query now shown more legal right fits is) bounds page
 
 pub answers_refused : (held : Opening) (change : Change) (why : AlterError) (now : ℕ) → alter_refusal (newest held.schemas) change ≡ Some why → Answers held held now (Alter change) (Refused why)

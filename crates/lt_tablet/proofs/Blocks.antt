@@ -200,8 +200,7 @@ entries_are index start last [] each rising there = tt
 entries_are index start last (recs ∷ blocks) each rising there =
     let split = rises_split last recs (joined blocks) rising in
     let final : last_key last recs ≡ last_key [] recs = last_of_some last [] recs each.0.some in
-    let len = length-append (spelling recs) (blocks_spelled blocks) in
-    (
+    let len = length-append (spelling recs) (blocks_spelled blocks) in (
       entry_is index start last recs (length (entries_of (start + length (spelling recs)) blocks)) each.0 split.0 (λ none. at_end blocks (omega (arith, length_entries (start + length (spelling recs)) blocks, none)) there),
       entries_are index (start + length (spelling recs)) (last_key [] recs) blocks each.1 (subst (λ (k : List ℕ). Rises k (joined blocks)) final split.1) (omega (arith, there, len)),
     )

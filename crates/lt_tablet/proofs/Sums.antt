@@ -67,9 +67,10 @@ pub record Within (t : Totals) (r : Record) : Type 0 where
 
 within_from : (t : Totals) (xs : List Record) → AllByRecursion (λ r. t.low ≤ r.ts) xs → AllByRecursion (λ r. r.ts ≤ t.high) xs → AllByRecursion (λ r. t.first ≤ r.seq) xs → AllByRecursion (λ r. r.seq ≤ t.last) xs → AllByRecursion (Within t) xs
 within_from t [] a b c d = tt
-within_from t (r ∷ xs) a b c d =
-    (record { timed = and_from (leb t.low r.ts) (leb r.ts t.high) (le-leb _ _ a.0) (le-leb _ _ b.0); numbered = and_from (leb t.first r.seq) (leb r.seq t.last) (le-leb _ _ c.0) (le-leb _ _ d.0) },
-    within_from t xs a.1 b.1 c.1 d.1)
+within_from t (r ∷ xs) a b c d = (
+  record { timed = and_from (leb t.low r.ts) (leb r.ts t.high) (le-leb _ _ a.0) (le-leb _ _ b.0); numbered = and_from (leb t.first r.seq) (leb r.seq t.last) (le-leb _ _ c.0) (le-leb _ _ d.0) },
+  within_from t xs a.1 b.1 c.1 d.1,
+)
 
 pub all_within : (recs : List Record) → AllByRecursion (Within (totals_of recs)) recs
 all_within recs = within_from (totals_of recs) recs (least_low (λ r. r.ts) recs) (greatest_high (λ r. r.ts) recs) (least_low (λ r. r.seq) recs) (greatest_high (λ r. r.seq) recs)

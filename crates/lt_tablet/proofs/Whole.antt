@@ -43,6 +43,7 @@ place_ok listed len foot e = first (eqb len listed) refl e
     second : (b : Bool) → ltb len 170 ≡ b → len ≡ listed → unless_short b len ≡ Ok foot → IsFoot listed len foot
     second true t same h = absurd cc
     second false t same h = record { listed_so = same; long = ltb-false _ _ t; foot_is = sym (ok_is (len - 88) foot h) }
+
     first : (b : Bool) → eqb len listed ≡ b → if_listed b listed len ≡ Ok foot → IsFoot listed len foot
     first true t h = second (ltb len 170) refl (eqb-true _ _ t) h
     first false t h = absurd cc
