@@ -1,3 +1,4 @@
 pub mod Bytes
 pub mod Keys
 pub mod Lengths
+pub mod Steps

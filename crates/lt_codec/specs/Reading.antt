@@ -11,6 +11,10 @@ use Rattle.lt_schema.specs.Shapes.{ColumnShape, SchemaShape}
 use Rattle.lt_schema.specs.Values.{is_of_kind}
 use Rattle.lt_schema.specs.Versions.{SchemaVersions, newest_version, schema_at}
 use Rattle.lt_codec.specs.Spelling.{key_columns, body_columns}
+use Rattle.lt_codec.specs.declared.reading.Part.{Part}
+use Rattle.lt_codec.specs.declared.reading.Part.TheVariants.{Key, Body}
+use Rattle.lt_codec.specs.declared.taking.Step.{Step}
+use Rattle.lt_codec.specs.declared.taking.Step.TheVariants.{Put, Wait, End, Fault}
 use Rattle.lt_codec.specs.declared.fault.CodecError.{CodecError}
 use Rattle.lt_codec.specs.declared.fault.CodecError.TheVariants as errors
 
@@ -59,7 +63,7 @@ if_of_kind kind x = if is_of_kind kind x.0 then Some x else None
 abbrev pub any_in_key : Kind → List ℕ → Option (Value × List ℕ)
 any_in_key Int32 bytes = option_map (number_as turned_back) (number_at w64 bytes)
 any_in_key Int64 bytes = option_map (number_as turned_back) (number_at w64 bytes)
-any_in_key Time bytes = option_map (number_as (λ n. pos n)) (number_at w64 bytes)
+any_in_key Time bytes = option_map (number_as (cast_signed w64)) (number_at w64 bytes)
 any_in_key TextKind bytes = option_and_then text_as (unescaped false bytes)
 any_in_key BlobKind bytes = option_map bytes_as (unescaped false bytes)
 
@@ -95,21 +99,40 @@ values_at reads end (column ∷ columns) bytes = do
 abbrev pub ended : ℕ → List Value × List ℕ → Result (List Value) ℕ
 ended end x = if length x.1 == 0 then Ok x.0 else Err (end - length x.1)
 
+-- all of the bytes as the values under these columns
+abbrev pub all_at : (Kind → List ℕ → Option (Value × List ℕ)) → ℕ → List ColumnShape → List ℕ → Result (List Value) ℕ
+all_at reads end columns bytes = values_at reads end columns bytes >>= ended end
+
+-- values behind earlier ones
+abbrev pub behind_values : List Value → Result (List Value) ℕ → Result (List Value) ℕ
+behind_values before read = read >>= λ row. Ok (before ++ row)
+
 -- the row of a key and a body that are joined
 unfoldable pub row_at : SchemaShape → List ℕ → List ℕ → Result (List Value) ℕ
 row_at schema key body = do
-  in_key ← values_at in_key_at (length key) (key_columns schema) key
-  first ← ended (length key) in_key
-  in_body ← values_at in_body_at (length key + length body) (body_columns schema) body
-  others ← ended (length key + length body) in_body
-  Ok (first ++ others)
+  first ← all_at in_key_at (length key) (key_columns schema) key
+  behind_values first (all_at in_body_at (length key + length body) (body_columns schema) body)
 
 -- the row of a record, by its version; where there is no such version offset 0 is named
 unfoldable pub row_in : SchemaVersions → Record → Result (List Value) ℕ
 row_in versions rec = if nat_le rec.ver (newest_version versions) then row_at (schema_at versions rec.ver) rec.key rec.body else Err 0
 
--- what a call answered is what reading gives, unless memory ran out
+-- what a call answered, and left, is what reading gives, unless memory ran out
+abbrev pub Leaves : {A : Type 0} → List Value → Result A CodecError → Result (List Value) ℕ → Type 0
+Leaves left (Ok x) read = read ≡ Ok left
+Leaves left (Err (errors.Bad at)) read = read ≡ Err at
+Leaves left (Err errors.NoMemory) read = Unit {0}
+
 abbrev pub Answers : Result (List Value) CodecError → Result (List Value) ℕ → Type 0
 Answers (Ok row) read = read ≡ Ok row
 Answers (Err (errors.Bad at)) read = read ≡ Err at
 Answers (Err errors.NoMemory) read = Unit {0}
+
+abbrev pub reads_of : Part → Kind → List ℕ → Option (Value × List ℕ)
+reads_of Key = in_key_at
+reads_of Body = in_body_at
+
+-- what the next byte of an escaped text does: it is one of the text, it waits for the next, it ends the text, or it can't stand there
+abbrev pub step : Bool → ℕ → Step
+step false b = if b == 0 then Wait else Put b
+step true b = if b == 0 then End else (if b == 255 then Put 0 else Fault)

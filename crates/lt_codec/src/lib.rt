@@ -3,8 +3,14 @@
 
 mod fault;
 mod laws;
+mod reading;
+mod taking;
 mod writing;
 
 pub use fault::{BoundError, CodecError};
 pub use laws::{cuts_stand_with_their_values, keys_order_as_their_bytes};
+pub use reading::row_of;
 pub use writing::{cut_of, rec_of};
+
+#[cfg(test)]
+mod tests;
