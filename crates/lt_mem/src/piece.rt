@@ -10,7 +10,7 @@ use std::marker::Model;
 use std::sync::Arc;
 
 /// How many records a full vector makes room for at a time, so that little memory stays unused.
-const GROWTH: usize = 32;
+const GROWTH: usize = 64;
 
 /// Neighbouring records, which lists of records may share, and two timestamps that theirs lie between. Contracts see the
 /// list.
@@ -156,8 +156,12 @@ fn place_in_vec(recs: &mut Vec<Rec>, place: usize, rec: Rec) -> Result<(), Rec>
     if recs.len() == recs.capacity() && recs.reserve_exact(GROWTH).is_err() {
         return Err(rec);
     }
-    match recs.insert(place, rec) {
-        Ok(()) => Ok(()),
+    match recs.push(rec) {
+        Ok(()) => {
+            let (_, behind) = recs.as_mut_slice().split_at_mut(place);
+            behind.rotate_right(1);
+            Ok(())
+        }
         Err(refused) => Err(refused.value),
     }
 }

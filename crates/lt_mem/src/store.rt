@@ -7,17 +7,17 @@ use crate::piece::Piece;
 use lt_rec::Rec;
 use std::alloc::Global;
 
-/// The most records of a piece.
+/// A piece with so many records is split.
 const FULL: usize = 512;
 
-/// Splits the piece, where it has more than its share of records and there is memory for one more.
+/// Splits the piece, where it is full and there is memory for one more.
 fn split_long(pieces: &mut Vec<Piece>, at: usize)
     requires held { at < length pieces.old.items }
     requires some { NoneIsEmpty pieces.old.items }
     ensures same { joined pieces.new.items ≡ joined pieces.old.items }
     ensures some { NoneIsEmpty pieces.new.items }
 {
-    if pieces[at].as_slice().len() <= FULL || pieces.reserve(1).is_err() {
+    if pieces[at].as_slice().len() < FULL || pieces.reserve(1).is_err() {
         return;
     }
     let piece = &mut pieces[at];
@@ -30,7 +30,7 @@ fn split_long(pieces: &mut Vec<Piece>, at: usize)
     }
 }
 
-/// Puts the record at this place of a piece. A piece with more than its share of records is then split.
+/// Puts the record at this place of a piece. A piece that is then full is split.
 pub fn put_at(pieces: &mut Vec<Piece>, at: usize, place: usize, rec: Rec) -> Result<(), Rec>
     requires held { at < length pieces.old.items }
     requires within { place ≤ length (piece_at pieces.old.items at) }
