@@ -1,5 +1,5 @@
 use Rattle.std.proofs.Common.{◌≢◌, ℕ, ◌<◌, get_or}
-use Rattle.lt_deps.proofs.places.place_of.Given as goal
+use Rattle.lt_deps.proofs.places.anywhere.Given as goal
 
 -- none of the tablets so far is the one
 abbrev pub invariant-loop-place : goal.invariant-loop-place
