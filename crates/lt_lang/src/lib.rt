@@ -33,4 +33,6 @@ pub use sentences::read_line;
 pub use upkeep::{Listing, MergeEnd};
 
 #[cfg(test)]
+mod line_tests;
+#[cfg(test)]
 mod tests;
