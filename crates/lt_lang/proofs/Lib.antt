@@ -4,3 +4,16 @@ mod Taken
 mod Spelled
 mod LineParts
 mod Quoted
+mod Utf8
+mod HexDigits
+mod Pieces
+mod NameBytes
+mod TextLoop
+mod LiteralLoop
+mod WordForms
+mod Gaps
+mod Understood
+mod Answered
+mod Spoken
+mod Wanted
+mod Exactly
