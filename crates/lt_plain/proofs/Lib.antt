@@ -3,4 +3,5 @@ pub mod Histories
 pub mod Keys
 pub mod Inserts
 pub mod Scans
+pub mod Paging
 pub mod Steps

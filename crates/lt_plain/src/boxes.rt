@@ -62,10 +62,7 @@ fn is_inside(schema: &Schema, query: &Query, row: &[Value]) -> bool
 {
     let key = key(schema, row);
     let time = time(schema, row);
-    is_above(&query.lo, key)
-        && is_below(&query.hi, key)
-        && query.from <= time
-        && time <= query.to
+    is_above(&query.lo, key) && is_below(&query.hi, key) && query.from <= time && time <= query.to
 }
 
 /// Inside the box, and unexpired.
