@@ -4,3 +4,9 @@ mod Taken
 mod Spelled
 mod LineParts
 mod Quoted
+mod Utf8
+mod HexDigits
+mod Pieces
+mod NameBytes
+mod TextLoop
+mod LiteralLoop

@@ -3,3 +3,7 @@ pub mod Grammar
 pub mod Reading
 pub mod Table
 pub mod Texts
+pub mod Tokens
+pub mod Literals
+pub mod Sentences
+pub mod Parsing

@@ -1,6 +1,9 @@
 //! Integers at the front of a line: an optional -, and 1 to 19 digits.
 ghost use Rattle.std.specs.Prelude.{◌≡◌, ◌^◌, ◌≤◌, neg_ℤ, pos, SomeIff};
+ghost use Rattle.lt_lang.specs.Parsing.{count_of, integer_of, moment_of};
 ghost use Rattle.lt_lang.specs.Reading.{Finds, count_at, device_at, digit_at, digits_at, integer_at, moment_at, negated_at, time_at, unsigned_at};
+
+use crate::parsing::after;
 
 const MOMENTS: u64 = 1 << 62;
 
@@ -103,5 +106,38 @@ pub fn time_at(bytes: &[u8]) -> Option<(i64, &[u8])>
         Some((time, rest))
     } else {
         None
+    }
+}
+
+/// A word that is a number of 1 to 19 digits.
+#[tactic(auto, unfolding(crate::specs::Parsing::count_of))]
+pub fn count_of(word: &[u8]) -> Option<u64>
+    ensures { Finds (λ x. x) result (count_of word.now) }
+{
+    match count_at(word) {
+        Some((count, [])) => Some(count),
+        _ => None,
+    }
+}
+
+/// A word that is an integer within 64 bits, signed.
+#[tactic(auto, unfolding(crate::specs::Parsing::integer_of))]
+pub fn integer_of(word: &[u8]) -> Option<i64>
+    ensures { Finds (λ x. x) result (integer_of word.now) }
+{
+    match integer_at(word) {
+        Some((integer, [])) => Some(integer),
+        _ => None,
+    }
+}
+
+/// A word that is a @ and a number below 2^62.
+#[tactic(auto, unfolding(crate::specs::Parsing::moment_of))]
+pub fn moment_of(word: &[u8]) -> Option<u64>
+    ensures { Finds (λ x. x) result (moment_of word.now) }
+{
+    match moment_at(after(word, b"@")?) {
+        Some((moment, [])) => Some(moment),
+        _ => None,
     }
 }

@@ -2,14 +2,23 @@
 //! An input is cut into lines, a line is read exactly where it has the form of one, and each reply has one text.
 #![tactic(auto)]
 
+mod alters;
 mod command;
+mod hex;
 mod integers;
 mod laws;
 mod lines;
+mod literals;
+mod names;
 mod parsing;
 mod printing;
 mod query;
 mod reply;
+mod scans;
+mod sentences;
+mod stop;
+mod texts;
+mod tokens;
 mod upkeep;
 mod values;
 
@@ -20,6 +29,7 @@ pub use parsing::parse_line;
 pub use printing::{put_client, put_end, put_reply, reply_text};
 pub use query::{BoundFault, Edge, Query};
 pub use reply::Reply;
+pub use sentences::read_line;
 pub use upkeep::{Listing, MergeEnd};
 
 #[cfg(test)]

@@ -24,8 +24,9 @@ struct Parts<'a> {
     amount: i64,
 }
 
+/// What is left behind these bytes.
 #[tactic(auto, unfolding(crate::specs::Reading::after))]
-fn after<'a>(bytes: &'a [u8], words: &[u8]) -> Option<&'a [u8]>
+pub fn after<'a>(bytes: &'a [u8], words: &[u8]) -> Option<&'a [u8]>
     ensures { Finds (λ x. x.now) result (after words.now bytes.now) }
 {
     bytes.strip_prefix(words)
