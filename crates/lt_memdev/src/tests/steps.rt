@@ -56,7 +56,8 @@ pub(super) fn run(
     };
     for (step, fails) in steps {
         let failed = take(&mut device, &mut scene, step)?;
-        bench::told(rt, failed == *fails, "a step", "whether it fails");
+        let case = format!(in alloc; "then moment {}", scene.dir.moments())?;
+        bench::told(rt, failed == *fails, "whether a step fails", case.as_str());
     }
     Ok(scene)
 }
