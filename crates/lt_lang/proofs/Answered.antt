@@ -146,8 +146,17 @@ scan_at-read bytes p e =
     let third = front-append c.tokens (d.tokens ++ m.tokens) hi.1 times.1 limit.1 c.front last in
     let second = front-append b.tokens (c.tokens ++ (d.tokens ++ m.tokens)) lo.1 hi.1 limit.1 b.front third in
     let is : IsScan (a.tokens ++ (b.tokens ++ (c.tokens ++ (d.tokens ++ m.tokens)))) query = record {
-      lo = a.tokens; hi = b.tokens; times = c.tokens; direction = d.tokens; limit = m.tokens; spelled = refl;
-      lo_edge = a.is; hi_edge = b.is; all_times = c.is; down = d.is; most = m.is;
+      lo = a.tokens;
+      hi = b.tokens;
+      times = c.tokens;
+      direction = d.tokens;
+      limit = m.tokens;
+      spelled = refl;
+      lo_edge = a.is;
+      hi_edge = b.is;
+      all_times = c.is;
+      down = d.is;
+      most = m.is;
     } in
     let found : TakesTokens Query IsScan bytes (query, limit.1) = record {
       tokens = a.tokens ++ (b.tokens ++ (c.tokens ++ (d.tokens ++ m.tokens)));
@@ -177,7 +186,10 @@ append_at-read bytes rest p next e =
     let named : Next name.0 rest name.1 = subst (λ t. Next t rest name.1) n.is.1 n.next in
     let of_kind : Next (kind_word kind.0) name.1 kind.1 = subst (λ t. Next t name.1 kind.1) k.is k.next in
     let is : IsAppend (codes "append" ∷ name.0 ∷ kind_word kind.0 ∷ d.tokens) column = record {
-      rest = d.tokens; spelled = refl; name = sym (ap is_name n.is.1) ∙ n.is.0; default = d.is;
+      rest = d.tokens;
+      spelled = refl;
+      name = sym (ap is_name n.is.1) ∙ n.is.0;
+      default = d.is;
     } in
     let found : TakesTokens Change IsChange bytes (Append column, (default_at kind.0 kind.1).1) = record {
       tokens = codes "append" ∷ name.0 ∷ kind_word kind.0 ∷ d.tokens;

@@ -98,8 +98,10 @@ absent_by word bytes t eq e = let h : same (next_word bytes) word ≡ false = eq
 
 not_same : (ws : List (List ℕ)) (word bytes : List ℕ) → SeesOne ws bytes → may_start word ≡ true → list_all (is_other word) ws ≡ true → same (next_word bytes) word ≡ false
 not_same ws word bytes sees start others =
-    elim sees.word [ inl none ↦ ap (λ w. same w word) none ∙ nothing_same word start
-                   | inr one ↦ no_of (same (next_word bytes) word) (each_of (is_other word) (next_word bytes) ws one others) ]
+    elim sees.word [
+      | inl none ↦ ap (λ w. same w word) none ∙ nothing_same word start
+      | inr one ↦ no_of (same (next_word bytes) word) (each_of (is_other word) (next_word bytes) ws one others)
+    ]
 
 absent : (ws : List (List ℕ)) (word bytes : List ℕ) → SeesOne ws bytes → may_start word ≡ true → list_all (is_other word) ws ≡ true → after_word word bytes ≡ None
 absent ws word bytes sees start others = absent_by word bytes (same (next_word bytes) word) refl (not_same ws word bytes sees start others)
@@ -121,8 +123,10 @@ nothing_value = refl
 
 see_no_value : (ws : List (List ℕ)) (bytes : List ℕ) → SeesOne ws bytes → list_all no_value ws ≡ true → word_value (next_word bytes) ≡ None
 see_no_value ws bytes sees others =
-    elim sees.word [ inl none ↦ ap word_value none ∙ nothing_value
-                   | inr one ↦ none_of (word_value (next_word bytes)) (each_of no_value (next_word bytes) ws one others) ]
+    elim sees.word [
+      | inl none ↦ ap word_value none ∙ nothing_value
+      | inr one ↦ none_of (word_value (next_word bytes)) (each_of no_value (next_word bytes) ws one others)
+    ]
 
 no_literal : (ws : List (List ℕ)) (bytes : List ℕ) → SeesOne ws bytes → list_all no_value ws ≡ true → literal_at bytes ≡ None
 unfolding literal_at literal_here
