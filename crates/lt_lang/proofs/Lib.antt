@@ -10,3 +10,10 @@ mod Pieces
 mod NameBytes
 mod TextLoop
 mod LiteralLoop
+mod WordForms
+mod Gaps
+mod Understood
+mod Answered
+mod Spoken
+mod Wanted
+pub mod Exactly

@@ -169,3 +169,9 @@ pub record IsSkipped (bytes : List ℕ) : Type 0 where
   pub spelled : bytes ≡ gap ++ remark
   pub spaces : list_all is_space gap ≡ true
   pub is : is_remark remark ≡ true
+
+-- The bytes spell the line. A bad line is one that nothing spells as anything else.
+abbrev pub IsSpelled : List ℕ → Line → Type 0
+IsSpelled bytes lines.Skip = IsSkipped bytes
+IsSpelled bytes (lines.Command client moment command) = IsSentence bytes client moment command
+IsSpelled bytes (lines.Bad client at) = (IsSkipped bytes → ⊥) × ((other : List ℕ) (moment : Option ℕ) (command : Command) → IsSentence bytes other moment command → ⊥)

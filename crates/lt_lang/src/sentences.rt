@@ -1,6 +1,7 @@
 //! A line is read token by token: a client's name, a moment, and one command.
-ghost use Rattle.std.specs.Prelude.{◌≡◌, ◌-◌, IfOk, codes, length};
-ghost use Rattle.lt_lang.specs.Sentences.{is_remark};
+ghost use Rattle.std.specs.Prelude.{◌≡◌, ◌-◌, ℕ, List, Option, IfOk, codes, length};
+ghost use Rattle.lt_lang.specs.declared.command.Command.{Command as Asked};
+ghost use Rattle.lt_lang.specs.Sentences.{is_remark, IsSentence, IsSkipped, IsSpelled};
 ghost use Rattle.lt_lang.specs.Parsing.{Gives, client_line, command_at, command_by, last_command, line_at, request_at};
 ghost use Rattle.lt_lang.specs.Parsing.{said, says, literals_at, scan_at, maybe_count, change_at};
 
@@ -140,9 +141,8 @@ fn no_client(alloc: Global, line: &[u8], left: usize) -> Result<Line, NoMemory>
     Ok(Line::Bad { client, at })
 }
 
-/// Reads a line: it is skipped, or a client's command, or bad from the first token on that can't stand in its place.
 #[tactic(auto, unfolding(crate::specs::Parsing::line_at))]
-pub fn read_line(alloc: Global, line: &[u8]) -> Result<Line, NoMemory>
+fn line_at(alloc: Global, line: &[u8]) -> Result<Line, NoMemory>
     ensures { IfOk result (λ read. read ≡ line_at line.now) }
 {
     let here = skip_spaces(line);
@@ -154,4 +154,17 @@ pub fn read_line(alloc: Global, line: &[u8]) -> Result<Line, NoMemory>
         Some(name) => client_line(alloc, line, name_label(alloc, name)?, rest),
         None => no_client(alloc, line, here.len()),
     }
+}
+
+/// Reads a line: it is skipped, or a client's command, or bad from the first token on that can't stand in its place.
+pub fn read_line(alloc: Global, line: &[u8]) -> Result<Line, NoMemory>
+    // Which line it is, and in a bad one the place of the first token that can't stand.
+    ensures exact { IfOk result (λ read. read ≡ line_at line.now) }
+    // What is read is so spelled.
+    ensures read { IfOk result (IsSpelled line.now) }
+    // What is so spelled is read.
+    ensures only { (client : List ℕ) (moment : Option ℕ) (command : Asked) → IsSentence line.now client moment command → IfOk result (λ read. read ≡ Line.Command client moment command) }
+    ensures skipped { IsSkipped line.now → IfOk result (λ read. read ≡ Line.Skip) }
+{
+    line_at(alloc, line)
 }

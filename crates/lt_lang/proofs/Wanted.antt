@@ -1,0 +1,520 @@
+-- Commands and lines that are so spelled are read.
+use Rattle.std.proofs.Common.{◌≡◌, ℕ, zero, suc, ◌+◌, ◌-◌, ◌^◌, ◌<◌, ◌≤◌, Bool, true, false, ◌&&◌, List, [], ◌∷◌, ◌++◌, length, take, drop, refl, sym, ◌∙◌, ap, subst, arith, append_assoc, Option, Some, None, inl, inr}
+use Rattle.std.proofs.lemmas.List.{append-nil}
+use Rattle.std.proofs.lemmas.Bool.{eqb-true}
+use Rattle.std.specs.Prelude.{nat_eq, nat_le, not, if◌then◌else◌, codes, Result, Ok, Err, ◌⊎◌, ⊤}
+use Rattle.std.specs.List.{list_all, prefix_len}
+use Rattle.std.specs.Cmp.{first_so, second_so}
+use Rattle.lt_schema.specs.Names.{is_name, is_name_byte}
+use Rattle.lt_schema.specs.declared.kind.Kind.{Kind}
+use Rattle.lt_schema.specs.declared.kind.Kind.TheVariants.{Int32, Int64, Time, Text as TextKind, Blob as BlobKind}
+use Rattle.lt_schema.specs.declared.value.Value.{Value}
+use Rattle.lt_schema.specs.declared.change.Change.{Change}
+use Rattle.lt_schema.specs.declared.change.Change.TheVariants.{Append, Widen}
+use Rattle.lt_schema.specs.Shapes.{ColumnShape}
+use Rattle.lt_lang.specs.declared.command.Command.{Command}
+use Rattle.lt_lang.specs.declared.command.Command.TheVariants.{Insert, Scan, Latest, Flush, Upkeep, Alter, Tablets}
+use Rattle.lt_lang.specs.declared.command.Line.{Line}
+use Rattle.lt_lang.specs.declared.command.Line.TheVariants as lines
+use Rattle.lt_lang.specs.declared.query.Edge.{Edge}
+use Rattle.lt_lang.specs.declared.query.Query.{Query}
+use Rattle.lt_lang.specs.Grammar.{IsCount}
+use Rattle.lt_lang.specs.Reading.{after, integer_at, unsigned_at, count_at}
+use Rattle.lt_lang.specs.Tokens.{is_space, is_quoted, is_ended, skipped, word_of, behind}
+use Rattle.lt_lang.specs.Literals.{IsLit, AreLits}
+use Rattle.lt_lang.specs.Sentences.{Next, Front, IsClient, IsMomentToken, IsOptional, IsEdge, IsSomeEdge, IsTimes, IsSomeTimes, IsDirection, IsLimit, IsSomeLimit, IsScan, IsDefault, IsAppend, IsChange, IsRest, command_word, IsSentence, IsSkipped, is_remark, blank_of, kind_word}
+use Rattle.lt_lang.specs.Parsing.{◌>>=◌, same, beside, integer_of, word_value, literal_here, needed, maybe, count_of, moment_of, column_name, kind_of, needed_count, maybe_count, maybe_moment, needed_name, needed_kind, next_word, behind_next, after_word, literal_at, literals_at, edge_by, edge_after, edge_at, times_after, times_at, direction_after, direction_at, limit_after, limit_at, query_of, scan_at, default_by, default_at, column_of, append_at, widen_at, change_after, change_at, stopped, said, says, command_by, command_at, last_command, request_at, client_line, line_by, line_at, client_of}
+use Rattle.lt_lang.proofs.WordForms.{IsStart, same-read, same-only, count_of-only, count_of-start, moment_of-only, moment_of-start, column_name-only, column_name-start, kind_of-only, kind_of-start, IsClientToken, client_of-only, client_of-start}
+use Rattle.lt_lang.proofs.Gaps.{skip_gap, skipped_next, next_is, Split, front-split}
+use Rattle.lt_lang.proofs.Understood.{read_ok}
+use Rattle.lt_lang.proofs.Answered.{AreLits-length}
+use Rattle.lt_lang.proofs.Spoken.{unquoted, literal_at-only, literals_at-only}
+
+-- one of these words
+abbrev OneOf : List ℕ → List (List ℕ) → Type 0
+OneOf word [] = ⊥
+OneOf word (w ∷ ws) = (word ≡ w) ⊎ OneOf word ws
+
+-- no tokens, or one of these words first
+abbrev HeadIn : List (List ℕ) → List (List ℕ) → Type 0
+HeadIn ws [] = ⊤
+HeadIn ws (token ∷ tokens) = OneOf token ws
+
+-- what a reader sees next: nothing, or one of these words
+record SeesOne (ws : List (List ℕ)) (bytes : List ℕ) : Type 0 where
+  bare : is_quoted (skipped bytes) ≡ false
+  word : (next_word bytes ≡ []) ⊎ OneOf (next_word bytes) ws
+
+-- a word that may begin a token
+abbrev may_start : List ℕ → Bool
+may_start [] = false
+may_start (b ∷ bs) = not (nat_eq b 34)
+
+no_of : (t : Bool) → not t ≡ true → t ≡ false
+no_of true e = cc
+no_of false e = refl
+
+start_of : (word : List ℕ) → may_start word ≡ true → IsStart word
+start_of [] e = cc
+start_of (b ∷ bs) e = record { some = omega arith; bare = no_of (nat_eq b 34) e }
+
+each_of : (test : List ℕ → Bool) (word : List ℕ) (ws : List (List ℕ)) → OneOf word ws → list_all test ws ≡ true → test word ≡ true
+each_of test word [] one all = absurd one
+each_of test word (w ∷ ws) (inl same_word) all = ap test same_word ∙ first_so (test w) (list_all test ws) all
+each_of test word (w ∷ ws) (inr others) all = each_of test word ws others (second_so (test w) (list_all test ws) all)
+
+skipped_spaces : (rest : List ℕ) → list_all is_space rest ≡ true → skipped rest ≡ []
+skipped_spaces rest all = ap skipped (sym (append-nil rest)) ∙ skip_gap rest [] all refl
+
+nothing_word : word_of [] ≡ []
+unfolding word_of
+nothing_word = refl
+
+sees_end : (ws : List (List ℕ)) (bytes : List ℕ) → list_all is_space bytes ≡ true → SeesOne ws bytes
+sees_end ws bytes all =
+    let none = skipped_spaces bytes all in
+    record { bare = ap is_quoted none; word = inl (ap word_of none ∙ nothing_word) }
+
+sees_next : (ws : List (List ℕ)) (token bytes rest : List ℕ) → Next token bytes rest → OneOf token ws → list_all may_start ws ≡ true → SeesOne ws bytes
+sees_next ws token bytes rest next one all =
+    let start = start_of token (each_of may_start token ws one all) in
+    let seen = next_is token bytes rest next start in
+    record { bare = ap is_quoted (skipped_next token bytes rest next) ∙ unquoted token rest start; word = inr (subst (λ w. OneOf w ws) (sym seen.0) one) }
+
+sees_one : (ws : List (List ℕ)) (tokens : List (List ℕ)) (bytes end : List ℕ) → Front tokens bytes end → list_all is_space end ≡ true → HeadIn ws tokens → list_all may_start ws ≡ true → SeesOne ws bytes
+sees_one ws [] bytes end front all head starts = sees_end ws bytes (ap (list_all is_space) front ∙ all)
+sees_one ws (token ∷ tokens) bytes end front all head starts = sees_next ws token bytes front.0 front.1 head starts
+
+abbrev is_other : List ℕ → List ℕ → Bool
+is_other word other = not (same other word)
+
+nothing_same : (word : List ℕ) → may_start word ≡ true → same [] word ≡ false
+nothing_same [] e = cc
+nothing_same (b ∷ bs) e = refl
+
+absent_by : (word bytes : List ℕ) (t : Bool) → same (next_word bytes) word ≡ t → t ≡ false → after_word word bytes ≡ None
+unfolding after_word
+absent_by word bytes t eq e = let h : same (next_word bytes) word ≡ false = eq ∙ e in rw h refl
+
+not_same : (ws : List (List ℕ)) (word bytes : List ℕ) → SeesOne ws bytes → may_start word ≡ true → list_all (is_other word) ws ≡ true → same (next_word bytes) word ≡ false
+not_same ws word bytes sees start others =
+    elim sees.word [
+      | inl none ↦ ap (λ w. same w word) none ∙ nothing_same word start
+      | inr one ↦ no_of (same (next_word bytes) word) (each_of (is_other word) (next_word bytes) ws one others)
+    ]
+
+absent : (ws : List (List ℕ)) (word bytes : List ℕ) → SeesOne ws bytes → may_start word ≡ true → list_all (is_other word) ws ≡ true → after_word word bytes ≡ None
+absent ws word bytes sees start others = absent_by word bytes (same (next_word bytes) word) refl (not_same ws word bytes sees start others)
+
+abbrev is_none : Option Value → Bool
+is_none None = true
+is_none (Some value) = false
+
+abbrev no_value : List ℕ → Bool
+no_value word = is_none (word_value word)
+
+none_of : (r : Option Value) → is_none r ≡ true → r ≡ None
+none_of None e = refl
+none_of (Some value) e = cc
+
+nothing_value : word_value [] ≡ None
+unfolding word_value after integer_of integer_at unsigned_at count_at
+nothing_value = refl
+
+see_no_value : (ws : List (List ℕ)) (bytes : List ℕ) → SeesOne ws bytes → list_all no_value ws ≡ true → word_value (next_word bytes) ≡ None
+see_no_value ws bytes sees others =
+    elim sees.word [
+      | inl none ↦ ap word_value none ∙ nothing_value
+      | inr one ↦ none_of (word_value (next_word bytes)) (each_of no_value (next_word bytes) ws one others)
+    ]
+
+no_literal : (ws : List (List ℕ)) (bytes : List ℕ) → SeesOne ws bytes → list_all no_value ws ≡ true → literal_at bytes ≡ None
+unfolding literal_at literal_here
+no_literal ws bytes sees others = let bare = sees.bare in rw (bare, see_no_value ws bytes sees others) refl
+
+-- a word that stands next is found
+present : (word bytes rest : List ℕ) → Next word bytes rest → IsStart word → after_word word bytes ≡ Some rest
+unfolding after_word
+present word bytes rest next start =
+    let seen = next_is word bytes rest next start in
+    let yes : same (next_word bytes) word ≡ true = same-only (next_word bytes) word seen.0 in
+    rw (yes, seen.1) refl
+
+-- another word stands next
+other_next : (word token bytes rest : List ℕ) → Next token bytes rest → IsStart token → same token word ≡ false → after_word word bytes ≡ None
+other_next word token bytes rest next start other = absent_by word bytes (same (next_word bytes) word) refl (ap (λ w. same w word) (next_is token bytes rest next start).0 ∙ other)
+
+count_next : (token bytes rest : List ℕ) (n : ℕ) → Next token bytes rest → IsCount token n → needed_count bytes ≡ read_ok (ℕ × List ℕ) (n, rest)
+unfolding needed_count
+count_next token bytes rest n next is =
+    let found = count_of-only token n is in
+    let seen = next_is token bytes rest next (count_of-start token n found) in
+    ap (λ w. needed (count_of w) bytes (behind_next bytes)) seen.0 ∙ ap (λ r. needed r bytes (behind_next bytes)) found ∙ ap (λ (l : List ℕ). read_ok (ℕ × List ℕ) (n, l)) seen.1
+
+joined_ok : (A B : Type 0) (r : Result A ℕ) (f : A → Result B ℕ) (x : A) (y : B) → r ≡ read_ok A x → f x ≡ read_ok B y → (r >>= f) ≡ read_ok B y
+joined_ok A B r f x y e g = rw e g
+
+edge_some : (t : Bool) (values : List Value) (mid : List ℕ) → 1 ≤ length values → edge_by t (values, mid) ≡ read_ok (Option Edge × List ℕ) (Some (record { values = values; strict = t }), mid)
+edge_some t [] mid some = absurd (omega arith)
+edge_some t (value ∷ values) mid some = refl
+
+edge_lits : (t : Bool) (literals : List (List ℕ)) (values : List Value) (rest mid : List ℕ) → Front literals rest mid → AreLits literals values → 1 ≤ length literals → literal_at mid ≡ None
+    → edge_by t (literals_at rest) ≡ read_ok (Option Edge × List ℕ) (Some (record { values = values; strict = t }), mid)
+edge_lits t literals values rest mid front are some none =
+    let len = AreLits-length literals values are in
+    ap (edge_by t) (literals_at-only literals values rest mid front are none) ∙ edge_some t values mid (omega arith)
+
+edge_given : (t : Bool) (weak strict : List ℕ) (literals : List (List ℕ)) (values : List Value) (bytes mid : List ℕ) → may_start weak ≡ true → may_start strict ≡ true → same strict weak ≡ false
+    → Front ((if t then strict else weak) ∷ literals) bytes mid → AreLits literals values → 1 ≤ length literals → literal_at mid ≡ None
+    → edge_after (after_word weak bytes) (after_word strict bytes) bytes ≡ read_ok (Option Edge × List ℕ) (Some (record { values = values; strict = t }), mid)
+edge_given false weak strict literals values bytes mid f g apart front are some none =
+    ap (λ r. edge_after r (after_word strict bytes) bytes) (present weak bytes front.0 front.1 (start_of weak f))
+    ∙ edge_lits false literals values front.0 mid front.2 are some none
+edge_given true weak strict literals values bytes mid f g apart front are some none =
+    ap (λ r. edge_after r (after_word strict bytes) bytes) (other_next weak strict bytes front.0 front.1 (start_of strict g) apart)
+    ∙ ap (λ r. edge_after None r bytes) (present strict bytes front.0 front.1 (start_of strict g))
+    ∙ edge_lits true literals values front.0 mid front.2 are some none
+
+-- in front of what may follow
+edge_only : (ws : List (List ℕ)) (weak strict : List ℕ) (tokens : List (List ℕ)) (edge : Option Edge) (bytes mid : List ℕ) → may_start weak ≡ true → may_start strict ≡ true → same strict weak ≡ false
+    → IsEdge weak strict tokens edge → Front tokens bytes mid → SeesOne ws mid → list_all (is_other weak) ws ≡ true → list_all (is_other strict) ws ≡ true → list_all no_value ws ≡ true
+    → edge_at weak strict bytes ≡ read_ok (Option Edge × List ℕ) (edge, mid)
+unfolding edge_at
+edge_only ws weak strict tokens None bytes mid f g apart is front sees no_weak no_strict no_lit =
+    let here : bytes ≡ mid = subst (λ ts. Front ts bytes mid) is front in
+    let sees_here = subst (SeesOne ws) (sym here) sees in
+    ap (λ r. edge_after r (after_word strict bytes) bytes) (absent ws weak bytes sees_here f no_weak)
+    ∙ ap (λ r. edge_after None r bytes) (absent ws strict bytes sees_here g no_strict)
+    ∙ ap (λ (l : List ℕ). read_ok (Option Edge × List ℕ) (None, l)) here
+edge_only ws weak strict tokens (Some edge) bytes mid f g apart is front sees no_weak no_strict no_lit =
+    let given : Front ((if edge.strict then strict else weak) ∷ is.literals) bytes mid = subst (λ ts. Front ts bytes mid) is.spelled front in
+    edge_given edge.strict weak strict is.literals edge.values bytes mid f g apart given is.values is.some (no_literal ws mid sees no_lit)
+
+times_only : (ws : List (List ℕ)) (tokens : List (List ℕ)) (from to : ℕ) (bytes mid : List ℕ) → IsTimes tokens from to → Front tokens bytes mid → SeesOne ws mid → list_all (is_other (codes "time")) ws ≡ true
+    → times_at bytes ≡ read_ok ((ℕ × ℕ) × List ℕ) ((from, to), mid)
+unfolding times_at
+times_only ws tokens from to bytes mid (inl is) front sees others =
+    let here : bytes ≡ mid = subst (λ ts. Front ts bytes mid) is.0 front in
+    let sees_here = subst (SeesOne ws) (sym here) sees in
+    ap (λ r. times_after r bytes) (absent ws (codes "time") bytes sees_here refl others)
+    ∙ ap (λ (l : List ℕ). read_ok ((ℕ × ℕ) × List ℕ) ((0, 2 ^ 62 - 1), l)) here
+    ∙ ap (λ (n : ℕ). read_ok ((ℕ × ℕ) × List ℕ) ((n, 2 ^ 62 - 1), mid)) (sym is.1)
+    ∙ ap (λ (n : ℕ). read_ok ((ℕ × ℕ) × List ℕ) ((from, n), mid)) (sym is.2)
+times_only ws tokens from to bytes mid (inr is) front sees others =
+    let given : Front (codes "time" ∷ is.first ∷ is.last ∷ []) bytes mid = subst (λ ts. Front ts bytes mid) is.spelled front in
+    let r1 = given.0 in
+    let r2 = given.2.0 in
+    let r3 = given.2.2.0 in
+    let here : r3 ≡ mid = given.2.2.2 in
+    ap (λ r. times_after r bytes) (present (codes "time") bytes r1 given.1 (start_of (codes "time") refl))
+    ∙ joined_ok (ℕ × List ℕ) ((ℕ × ℕ) × List ℕ) (needed_count r1) _ (from, r2) ((from, to), mid) (count_next is.first r1 r2 from given.2.1 is.first_count)
+    (joined_ok (ℕ × List ℕ) ((ℕ × ℕ) × List ℕ) (needed_count r2) _ (to, r3) ((from, to), mid) (count_next is.last r2 r3 to given.2.2.1 is.last_count)
+    (ap (λ (l : List ℕ). read_ok ((ℕ × ℕ) × List ℕ) ((from, to), l)) here))
+
+abbrev direction_found : Bool → List ℕ → Bool × List ℕ
+direction_found down l = (down, l)
+
+direction_only : (ws : List (List ℕ)) (tokens : List (List ℕ)) (down : Bool) (bytes mid : List ℕ) → IsDirection tokens down → Front tokens bytes mid → SeesOne ws mid
+    → list_all (is_other (codes "asc")) ws ≡ true → list_all (is_other (codes "desc")) ws ≡ true → direction_at bytes ≡ direction_found down mid
+unfolding direction_at
+direction_only ws tokens down bytes mid (inl is) front sees no_asc no_desc =
+    let here : bytes ≡ mid = subst (λ ts. Front ts bytes mid) is.0 front in
+    let sees_here = subst (SeesOne ws) (sym here) sees in
+    ap (λ r. direction_after r (after_word (codes "desc") bytes) bytes) (absent ws (codes "asc") bytes sees_here refl no_asc)
+    ∙ ap (λ r. direction_after None r bytes) (absent ws (codes "desc") bytes sees_here refl no_desc)
+    ∙ ap (direction_found false) here ∙ ap (λ t. direction_found t mid) (sym is.1)
+direction_only ws tokens down bytes mid (inr (inl is)) front sees no_asc no_desc =
+    let given : Front (codes "asc" ∷ []) bytes mid = subst (λ ts. Front ts bytes mid) is.0 front in
+    let here : given.0 ≡ mid = given.2 in
+    ap (λ r. direction_after r (after_word (codes "desc") bytes) bytes) (present (codes "asc") bytes given.0 given.1 (start_of (codes "asc") refl))
+    ∙ ap (direction_found false) here ∙ ap (λ t. direction_found t mid) (sym is.1)
+direction_only ws tokens down bytes mid (inr (inr is)) front sees no_asc no_desc =
+    let given : Front (codes "desc" ∷ []) bytes mid = subst (λ ts. Front ts bytes mid) is.0 front in
+    let here : given.0 ≡ mid = given.2 in
+    ap (λ r. direction_after r (after_word (codes "desc") bytes) bytes) (other_next (codes "asc") (codes "desc") bytes given.0 given.1 (start_of (codes "desc") refl) refl)
+    ∙ ap (λ r. direction_after None r bytes) (present (codes "desc") bytes given.0 given.1 (start_of (codes "desc") refl))
+    ∙ ap (direction_found true) here ∙ ap (λ t. direction_found t mid) (sym is.1)
+
+limit_only : (ws : List (List ℕ)) (tokens : List (List ℕ)) (limit : ℕ) (bytes mid : List ℕ) → IsLimit tokens limit → Front tokens bytes mid → SeesOne ws mid → list_all (is_other (codes "limit")) ws ≡ true
+    → limit_at bytes ≡ read_ok (ℕ × List ℕ) (limit, mid)
+unfolding limit_at
+limit_only ws tokens limit bytes mid (inl is) front sees others =
+    let here : bytes ≡ mid = subst (λ ts. Front ts bytes mid) is.0 front in
+    let sees_here = subst (SeesOne ws) (sym here) sees in
+    ap (λ r. limit_after r bytes) (absent ws (codes "limit") bytes sees_here refl others)
+    ∙ ap (λ (l : List ℕ). read_ok (ℕ × List ℕ) (1000, l)) here ∙ ap (λ (n : ℕ). read_ok (ℕ × List ℕ) (n, mid)) (sym is.1)
+limit_only ws tokens limit bytes mid (inr is) front sees others =
+    let given : Front (codes "limit" ∷ is.token ∷ []) bytes mid = subst (λ ts. Front ts bytes mid) is.spelled front in
+    let here : given.2.0 ≡ mid = given.2.2 in
+    ap (λ r. limit_after r bytes) (present (codes "limit") bytes given.0 given.1 (start_of (codes "limit") refl))
+    ∙ count_next is.token given.0 given.2.0 limit given.2.1 is.count ∙ ap (λ (l : List ℕ). read_ok (ℕ × List ℕ) (limit, l)) here
+
+one_left : (word : List ℕ) (ws vs : List (List ℕ)) → OneOf word ws → OneOf word (ws ++ vs)
+one_left word [] vs one = absurd one
+one_left word (w ∷ ws) vs (inl e) = inl e
+one_left word (w ∷ ws) vs (inr others) = inr (one_left word ws vs others)
+
+one_right : (word : List ℕ) (ws vs : List (List ℕ)) → OneOf word vs → OneOf word (ws ++ vs)
+one_right word [] vs one = one
+one_right word (w ∷ ws) vs one = inr (one_right word ws vs one)
+
+head_right : (ws vs tokens : List (List ℕ)) → HeadIn vs tokens → HeadIn (ws ++ vs) tokens
+head_right ws vs [] head = tt
+head_right ws vs (token ∷ tokens) head = one_right token ws vs head
+
+head-append : (ws vs a b : List (List ℕ)) → HeadIn ws a → HeadIn vs b → HeadIn (ws ++ vs) (a ++ b)
+head-append ws vs [] b f g = head_right ws vs b g
+head-append ws vs (token ∷ tokens) b f g = one_left token ws vs f
+
+head_none : (ws tokens : List (List ℕ)) → tokens ≡ [] → HeadIn ws tokens
+head_none ws tokens e = subst (HeadIn ws) (sym e) tt
+
+limit_head : (tokens : List (List ℕ)) (limit : ℕ) → IsLimit tokens limit → HeadIn (codes "limit" ∷ []) tokens
+limit_head tokens limit (inl is) = head_none (codes "limit" ∷ []) tokens is.0
+limit_head tokens limit (inr is) = subst (HeadIn (codes "limit" ∷ [])) (sym is.spelled) (inl refl)
+
+direction_head : (tokens : List (List ℕ)) (down : Bool) → IsDirection tokens down → HeadIn (codes "asc" ∷ codes "desc" ∷ []) tokens
+direction_head tokens down (inl is) = head_none (codes "asc" ∷ codes "desc" ∷ []) tokens is.0
+direction_head tokens down (inr (inl is)) = subst (HeadIn (codes "asc" ∷ codes "desc" ∷ [])) (sym is.0) (inl refl)
+direction_head tokens down (inr (inr is)) = subst (HeadIn (codes "asc" ∷ codes "desc" ∷ [])) (sym is.0) (inr (inl refl))
+
+times_head : (tokens : List (List ℕ)) (from to : ℕ) → IsTimes tokens from to → HeadIn (codes "time" ∷ []) tokens
+times_head tokens from to (inl is) = head_none (codes "time" ∷ []) tokens is.0
+times_head tokens from to (inr is) = subst (HeadIn (codes "time" ∷ [])) (sym is.spelled) (inl refl)
+
+edge_word : (t : Bool) (weak strict : List ℕ) → OneOf (if t then strict else weak) (weak ∷ strict ∷ [])
+edge_word false weak strict = inl refl
+edge_word true weak strict = inr (inl refl)
+
+edge_head : (weak strict : List ℕ) (tokens : List (List ℕ)) (edge : Option Edge) → IsEdge weak strict tokens edge → HeadIn (weak ∷ strict ∷ []) tokens
+edge_head weak strict tokens None is = head_none (weak ∷ strict ∷ []) tokens is
+edge_head weak strict tokens (Some edge) is = subst (HeadIn (weak ∷ strict ∷ [])) (sym is.spelled) (edge_word edge.strict weak strict)
+
+abbrev from_limit : List (List ℕ)
+from_limit = codes "limit" ∷ []
+
+abbrev from_direction : List (List ℕ)
+from_direction = codes "asc" ∷ codes "desc" ∷ codes "limit" ∷ []
+
+abbrev from_times : List (List ℕ)
+from_times = codes "time" ∷ codes "asc" ∷ codes "desc" ∷ codes "limit" ∷ []
+
+abbrev from_hi : List (List ℕ)
+from_hi = codes "le" ∷ codes "lt" ∷ codes "time" ∷ codes "asc" ∷ codes "desc" ∷ codes "limit" ∷ []
+
+no_values : list_all no_value from_hi ≡ true
+unfolding word_value after integer_of integer_at unsigned_at count_at
+no_values = refl
+
+fewer_values : list_all no_value from_times ≡ true
+unfolding word_value after integer_of integer_at unsigned_at count_at
+fewer_values = refl
+
+scan_only : (tokens : List (List ℕ)) (query : Query) (bytes end : List ℕ) → IsScan tokens query → Front tokens bytes end → list_all is_space end ≡ true → scan_at bytes ≡ read_ok (Query × List ℕ) (query, end)
+unfolding scan_at
+scan_only tokens query bytes end is front spaces =
+    let given : Front (is.lo ++ (is.hi ++ (is.times ++ (is.direction ++ is.limit)))) bytes end = subst (λ ts. Front ts bytes end) is.spelled front in
+    let s1 = front-split is.lo (is.hi ++ (is.times ++ (is.direction ++ is.limit))) bytes end given in
+    let s2 = front-split is.hi (is.times ++ (is.direction ++ is.limit)) s1.mid end s1.second in
+    let s3 = front-split is.times (is.direction ++ is.limit) s2.mid end s2.second in
+    let s4 = front-split is.direction is.limit s3.mid end s3.second in
+    let h4 = limit_head is.limit query.limit is.most in
+    let h3 = head-append (codes "asc" ∷ codes "desc" ∷ []) from_limit is.direction is.limit (direction_head is.direction query.down is.down) h4 in
+    let h2 = head-append (codes "time" ∷ []) from_direction is.times (is.direction ++ is.limit) (times_head is.times query.from query.to is.all_times) h3 in
+    let h1 = head-append (codes "le" ∷ codes "lt" ∷ []) from_times is.hi (is.times ++ (is.direction ++ is.limit)) (edge_head (codes "le") (codes "lt") is.hi query.hi is.hi_edge) h2 in
+    let e1 = sees_one from_hi (is.hi ++ (is.times ++ (is.direction ++ is.limit))) s1.mid end s1.second spaces h1 refl in
+    let e2 = sees_one from_times (is.times ++ (is.direction ++ is.limit)) s2.mid end s2.second spaces h2 refl in
+    let e3 = sees_one from_direction (is.direction ++ is.limit) s3.mid end s3.second spaces h3 refl in
+    let e4 = sees_one from_limit is.limit s4.mid end s4.second spaces h4 refl in
+    let lo = edge_only from_hi (codes "ge") (codes "gt") is.lo query.lo bytes s1.mid refl refl refl is.lo_edge s1.first e1 refl refl no_values in
+    let hi = edge_only from_times (codes "le") (codes "lt") is.hi query.hi s1.mid s2.mid refl refl refl is.hi_edge s2.first e2 refl refl fewer_values in
+    let times = times_only from_direction is.times query.from query.to s2.mid s3.mid is.all_times s3.first e3 refl in
+    let down = direction_only from_limit is.direction query.down s3.mid s4.mid is.down s4.first e4 refl refl in
+    let limit = limit_only [] is.limit query.limit s4.mid end is.most s4.second (sees_end [] end spaces) refl in
+    joined_ok (Option Edge × List ℕ) (Query × List ℕ) (edge_at (codes "ge") (codes "gt") bytes) _ (query.lo, s1.mid) (query, end) lo
+    (joined_ok (Option Edge × List ℕ) (Query × List ℕ) (edge_at (codes "le") (codes "lt") s1.mid) _ (query.hi, s2.mid) (query, end) hi
+    (joined_ok ((ℕ × ℕ) × List ℕ) (Query × List ℕ) (times_at s2.mid) _ ((query.from, query.to), s3.mid) (query, end) times
+    (joined_ok (ℕ × List ℕ) (Query × List ℕ) (limit_at (direction_at s3.mid).1) _ (query.limit, end) (query, end) (ap (λ (d : Bool × List ℕ). limit_at d.1) down ∙ limit)
+    (ap (λ (d : Bool × List ℕ). read_ok (Query × List ℕ) (query_of query.lo query.hi (query.from, query.to) d.0 query.limit, end)) down))))
+
+abbrev value_found : Value → List ℕ → Value × List ℕ
+value_found value l = (value, l)
+
+default_only : (kind : Kind) (tokens : List (List ℕ)) (value : Value) (bytes end : List ℕ) → IsDefault kind tokens value → Front tokens bytes end → list_all is_space end ≡ true
+    → default_at kind bytes ≡ value_found value end
+unfolding default_at
+default_only kind tokens value bytes end (inl is) front spaces =
+    let here : bytes ≡ end = subst (λ ts. Front ts bytes end) is.0 front in
+    let none : literal_at bytes ≡ None = ap literal_at here ∙ no_literal [] end (sees_end [] end spaces) refl in
+    ap (λ r. default_by kind r bytes) none ∙ ap (value_found (blank_of kind)) here ∙ ap (λ v. value_found v end) (sym is.1)
+default_only kind tokens value bytes end (inr is) front spaces =
+    let given : Front (is.0 ∷ []) bytes end = subst (λ ts. Front ts bytes end) is.1 front in
+    let here : given.0 ≡ end = given.2 in
+    ap (λ r. default_by kind r bytes) (literal_at-only is.0 bytes given.0 value given.1 is.2) ∙ ap (value_found value) here
+
+name_next : (name bytes rest : List ℕ) → Next name bytes rest → is_name name ≡ true → needed_name bytes ≡ read_ok (List ℕ × List ℕ) (name, rest)
+unfolding needed_name
+name_next name bytes rest next is =
+    let found = column_name-only name is in
+    let seen = next_is name bytes rest next (column_name-start name name found) in
+    ap (λ w. needed (column_name w) bytes (behind_next bytes)) seen.0 ∙ ap (λ r. needed r bytes (behind_next bytes)) found ∙ ap (λ (l : List ℕ). read_ok (List ℕ × List ℕ) (name, l)) seen.1
+
+kind_next : (kind : Kind) (bytes rest : List ℕ) → Next (kind_word kind) bytes rest → needed_kind bytes ≡ read_ok (Kind × List ℕ) (kind, rest)
+unfolding needed_kind
+kind_next kind bytes rest next =
+    let found = kind_of-only kind in
+    let seen = next_is (kind_word kind) bytes rest next (kind_of-start (kind_word kind) kind found) in
+    ap (λ w. needed (kind_of w) bytes (behind_next bytes)) seen.0 ∙ ap (λ r. needed r bytes (behind_next bytes)) found ∙ ap (λ (l : List ℕ). read_ok (Kind × List ℕ) (kind, l)) seen.1
+
+append_only : (column : ColumnShape) (tokens : List (List ℕ)) (bytes end : List ℕ) → Front (column.name ∷ kind_word column.kind ∷ tokens) bytes end → is_name column.name ≡ true → IsDefault column.kind tokens column.default
+    → list_all is_space end ≡ true → append_at bytes ≡ read_ok (Change × List ℕ) (Append column, end)
+unfolding append_at
+append_only column tokens bytes end front named is spaces =
+    let d = default_only column.kind tokens column.default front.2.0 end is front.2.2 spaces in
+    joined_ok (List ℕ × List ℕ) (Change × List ℕ) (needed_name bytes) _ (column.name, front.0) (Append column, end) (name_next column.name bytes front.0 front.1 named)
+    (joined_ok (Kind × List ℕ) (Change × List ℕ) (needed_kind front.0) _ (column.kind, front.2.0) (Append column, end) (kind_next column.kind front.0 front.2.0 front.2.1)
+    (ap (λ (p : Value × List ℕ). read_ok (Change × List ℕ) (Append (column_of column.name column.kind p.0), p.1)) d))
+
+widen_only : (name bytes rest end : List ℕ) → Next name bytes rest → is_name name ≡ true → rest ≡ end → widen_at bytes ≡ read_ok (Change × List ℕ) (Widen name, end)
+unfolding widen_at
+widen_only name bytes rest end next named here =
+    joined_ok (List ℕ × List ℕ) (Change × List ℕ) (needed_name bytes) _ (name, rest) (Widen name, end) (name_next name bytes rest next named)
+    (ap (λ (l : List ℕ). read_ok (Change × List ℕ) (Widen name, l)) here)
+
+change_only : (change : Change) (tokens : List (List ℕ)) (bytes end : List ℕ) → IsChange tokens change → Front tokens bytes end → list_all is_space end ≡ true → change_at bytes ≡ read_ok (Change × List ℕ) (change, end)
+unfolding change_at
+change_only (Append column) tokens bytes end is front spaces =
+    let given : Front (codes "append" ∷ column.name ∷ kind_word column.kind ∷ is.rest) bytes end = subst (λ ts. Front ts bytes end) is.spelled front in
+    ap (λ r. change_after r (after_word (codes "widen") bytes) bytes) (present (codes "append") bytes given.0 given.1 (start_of (codes "append") refl))
+    ∙ append_only column is.rest given.0 end given.2 is.name is.default spaces
+change_only (Widen name) tokens bytes end is front spaces =
+    let given : Front (codes "widen" ∷ name ∷ []) bytes end = subst (λ ts. Front ts bytes end) is.0 front in
+    ap (λ r. change_after r (after_word (codes "widen") bytes) bytes) (other_next (codes "append") (codes "widen") bytes given.0 given.1 (start_of (codes "widen") refl) refl)
+    ∙ ap (λ r. change_after None r bytes) (present (codes "widen") bytes given.0 given.1 (start_of (codes "widen") refl))
+    ∙ widen_only name given.0 given.2.0 end given.2.1 is.1 given.2.2
+
+abbrev maybe_found : Option ℕ → List ℕ → Option ℕ × List ℕ
+maybe_found r l = (r, l)
+
+nothing_next : (bytes : List ℕ) → list_all is_space bytes ≡ true → next_word bytes ≡ []
+nothing_next bytes spaces = ap word_of (skipped_spaces bytes spaces) ∙ nothing_word
+
+no_count : count_of [] ≡ None
+unfolding count_of count_at
+no_count = refl
+
+count_only : (tokens : List (List ℕ)) (tablet : Option ℕ) (bytes end : List ℕ) → IsOptional IsCount tokens tablet → Front tokens bytes end → list_all is_space end ≡ true → maybe_count bytes ≡ maybe_found tablet end
+unfolding maybe_count
+count_only tokens None bytes end is front spaces =
+    let here : bytes ≡ end = subst (λ ts. Front ts bytes end) is front in
+    let none : count_of (next_word bytes) ≡ None = ap count_of (ap next_word here ∙ nothing_next end spaces) ∙ no_count in
+    ap (λ r. maybe r bytes (behind_next bytes)) none ∙ ap (maybe_found None) here
+count_only tokens (Some n) bytes end is front spaces =
+    let given : Front (is.0 ∷ []) bytes end = subst (λ ts. Front ts bytes end) is.1 front in
+    let found = count_of-only is.0 n is.2 in
+    let seen = next_is is.0 bytes given.0 given.1 (count_of-start is.0 n found) in
+    let here : given.0 ≡ end = given.2 in
+    ap (λ w. maybe (count_of w) bytes (behind_next bytes)) seen.0 ∙ ap (λ r. maybe r bytes (behind_next bytes)) found ∙ ap (maybe_found (Some n)) (seen.1 ∙ here)
+
+no_moment : (command : Command) → moment_of (command_word command) ≡ None
+unfolding moment_of after
+no_moment (Insert row) = refl
+no_moment (Scan query) = refl
+no_moment (Latest prefix) = refl
+no_moment (Flush tablet) = refl
+no_moment Upkeep = refl
+no_moment (Alter change) = refl
+no_moment Tablets = refl
+
+command_start : (command : Command) → may_start (command_word command) ≡ true
+command_start (Insert row) = refl
+command_start (Scan query) = refl
+command_start (Latest prefix) = refl
+command_start (Flush tablet) = refl
+command_start Upkeep = refl
+command_start (Alter change) = refl
+command_start Tablets = refl
+
+moment_only : (tokens : List (List ℕ)) (moment : Option ℕ) (command : Command) (bytes mid rest : List ℕ) → IsOptional IsMomentToken tokens moment → Front tokens bytes mid → Next (command_word command) mid rest
+    → maybe_moment bytes ≡ maybe_found moment mid
+unfolding maybe_moment
+moment_only tokens None command bytes mid rest is front next =
+    let here : bytes ≡ mid = subst (λ ts. Front ts bytes mid) is front in
+    let word = (next_is (command_word command) mid rest next (start_of (command_word command) (command_start command))).0 in
+    let none : moment_of (next_word bytes) ≡ None = ap moment_of (ap next_word here ∙ word) ∙ no_moment command in
+    ap (λ r. maybe r bytes (behind_next bytes)) none ∙ ap (maybe_found None) here
+moment_only tokens (Some n) command bytes mid rest is front next =
+    let given : Front (is.0 ∷ []) bytes mid = subst (λ ts. Front ts bytes mid) is.1 front in
+    let found = moment_of-only is.0 n is.2 in
+    let seen = next_is is.0 bytes given.0 given.1 (moment_of-start is.0 n found) in
+    let here : given.0 ≡ mid = given.2 in
+    ap (λ w. maybe (moment_of w) bytes (behind_next bytes)) seen.0 ∙ ap (λ r. maybe r bytes (behind_next bytes)) found ∙ ap (maybe_found (Some n)) (seen.1 ∙ here)
+
+abbrev command_found : Command → List ℕ → Result (Command × List ℕ) ℕ
+command_found command l = Ok (command, l)
+
+by_word : (command : Command) (tokens : List (List ℕ)) (bytes end : List ℕ) (left : ℕ) → IsRest tokens command → Front tokens bytes end → list_all is_space end ≡ true
+    → command_by (command_word command) bytes left ≡ command_found command end
+unfolding command_by
+by_word (Insert row) tokens bytes end left is front spaces = ap (says Insert) (literals_at-only tokens row bytes end front is (no_literal [] end (sees_end [] end spaces) refl))
+by_word (Scan query) tokens bytes end left is front spaces = ap (said Scan) (scan_only tokens query bytes end is front spaces)
+by_word (Latest prefix) tokens bytes end left is front spaces = ap (says Latest) (literals_at-only tokens prefix bytes end front is (no_literal [] end (sees_end [] end spaces) refl))
+by_word (Flush tablet) tokens bytes end left is front spaces = ap (says Flush) (count_only tokens tablet bytes end is front spaces)
+by_word Upkeep tokens bytes end left is front spaces = ap (command_found Upkeep) (subst (λ ts. Front ts bytes end) is front)
+by_word (Alter change) tokens bytes end left is front spaces = ap (said Alter) (change_only change tokens bytes end is front spaces)
+by_word Tablets tokens bytes end left is front spaces = ap (command_found Tablets) (subst (λ ts. Front ts bytes end) is front)
+
+command_only : (command : Command) (tokens : List (List ℕ)) (bytes rest end : List ℕ) → Next (command_word command) bytes rest → IsRest tokens command → Front tokens rest end → list_all is_space end ≡ true
+    → command_at bytes ≡ command_found command end
+unfolding command_at
+command_only command tokens bytes rest end next is front spaces =
+    let seen = next_is (command_word command) bytes rest next (start_of (command_word command) (command_start command)) in
+    ap (λ w. command_by w (behind_next bytes) (length (skipped bytes))) seen.0 ∙ ap (λ l. command_by (command_word command) l (length (skipped bytes))) seen.1
+    ∙ by_word command tokens rest end (length (skipped bytes)) is front spaces
+
+last_only : (command : Command) (bytes end : List ℕ) → command_at bytes ≡ command_found command end → list_all is_space end ≡ true → last_command bytes ≡ read_ok Command command
+unfolding last_command
+last_only command bytes end e spaces =
+    joined_ok (Command × List ℕ) Command (command_at bytes) _ (command, end) command e (let none = skipped_spaces end spaces in rw none refl)
+
+request_only : (moment_tokens tokens : List (List ℕ)) (moment : Option ℕ) (command : Command) (bytes end : List ℕ) → IsOptional IsMomentToken moment_tokens moment → IsRest tokens command
+    → Front (moment_tokens ++ command_word command ∷ tokens) bytes end → list_all is_space end ≡ true → request_at bytes ≡ read_ok (Option ℕ × Command) (moment, command)
+unfolding request_at
+request_only moment_tokens tokens moment command bytes end when means front spaces =
+    let s = front-split moment_tokens (command_word command ∷ tokens) bytes end front in
+    let m = moment_only moment_tokens moment command bytes s.mid s.second.0 when s.first s.second.1 in
+    let k = last_only command s.mid end (command_only command tokens s.mid s.second.0 end s.second.1 means s.second.2 spaces) spaces in
+    joined_ok Command (Option ℕ × Command) (last_command (maybe_moment bytes).1) _ command (moment, command) (ap (λ (p : Option ℕ × List ℕ). last_command p.1) m ∙ k)
+    (ap (λ (p : Option ℕ × List ℕ). read_ok (Option ℕ × Command) (p.0, command)) m)
+
+no_remark_by : (t : Bool) (c : ℕ) → nat_eq c 35 ≡ t → is_name_byte c ≡ true → t ≡ false
+no_remark_by true c e name = let h : is_name_byte 35 ≡ true = ap is_name_byte (sym (eqb-true c 35 e)) ∙ name in cc
+no_remark_by false c e name = refl
+
+no_remark : (name rest : List ℕ) → IsClient name → is_remark ((name ++ codes ":") ++ rest) ≡ false
+no_remark [] rest is = let h = is.some in absurd (omega arith)
+no_remark (c ∷ cs) rest is = no_remark_by (nat_eq c 35) c refl (first_so (is_name_byte c) (list_all is_name_byte cs) is.bytes)
+
+pub sentence_line : (bytes client : List ℕ) (moment : Option ℕ) (command : Command) → IsSentence bytes client moment command → line_at bytes ≡ lines.Command client moment command
+unfolding line_at
+sentence_line bytes client moment command is =
+    let token = client ++ codes ":" in
+    let rest = is.front.0 in
+    let next = is.front.1 in
+    let named : client_of token ≡ Some client = client_of-only token client (record { spelled = refl; is = is.name }) in
+    let seen = next_is token bytes rest next (client_of-start token client named) in
+    let remark : is_remark (skipped bytes) ≡ false = ap is_remark (skipped_next token bytes rest next) ∙ no_remark client rest is.name in
+    let request = request_only is.moment_tokens is.tokens moment command rest is.rest is.when is.means is.front.2 is.ends in
+    ap (λ t. if t then lines.Skip else line_by (client_of (next_word bytes)) bytes (behind_next bytes)) remark
+    ∙ ap (λ w. line_by (client_of w) bytes (behind_next bytes)) seen.0 ∙ ap (λ r. line_by r bytes (behind_next bytes)) named
+    ∙ ap (λ l. client_line (length bytes) client (request_at l)) seen.1 ∙ ap (client_line (length bytes) client) request
+
+remark_len : (remark : List ℕ) → is_remark remark ≡ true → prefix_len is_space remark ≡ 0
+remark_len [] e = refl
+remark_len (b ∷ bs) e = let h : b ≡ 35 = eqb-true b 35 e in ap (λ c. prefix_len is_space (c ∷ bs)) h
+
+pub skip_line : (bytes : List ℕ) → IsSkipped bytes → line_at bytes ≡ lines.Skip
+unfolding line_at
+skip_line bytes is =
+    let here : skipped bytes ≡ is.remark = ap skipped is.spelled ∙ skip_gap is.gap is.remark is.spaces (remark_len is.remark is.is) in
+    ap (λ t. if t then lines.Skip else line_by (client_of (next_word bytes)) bytes (behind_next bytes)) (ap is_remark here ∙ is.is)
