@@ -22,3 +22,13 @@ read_so bytes (Err stop) e = tt
 pub found_so : {E : Type 0} (bytes : List ℕ) (r : Result Line E) (line : Line) → IfOk r (λ read. read ≡ line_at bytes) → line_at bytes ≡ line → IfOk r (λ read. read ≡ line)
 found_so bytes (Ok read) line e f = e ∙ f
 found_so bytes (Err stop) line e f = tt
+
+pub one_command : (bytes client other : List ℕ) (moment when : Option ℕ) (command request : Command) → IsSentence bytes client moment command → IsSentence bytes other when request
+    → lines.Command client moment command ≡ lines.Command other when request
+one_command bytes client other moment when command request first second =
+    sym (sentence_line bytes client moment command first) ∙ sentence_line bytes other when request second
+
+pub no_remark_beside : (bytes client : List ℕ) (moment : Option ℕ) (command : Command) → IsSkipped bytes → IsSentence bytes client moment command → ⊥
+no_remark_beside bytes client moment command skip is =
+    let f = skip_line bytes skip in
+    let g = sentence_line bytes client moment command is in cc

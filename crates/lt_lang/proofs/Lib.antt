@@ -16,4 +16,4 @@ mod Understood
 mod Answered
 mod Spoken
 mod Wanted
-mod Exactly
+pub mod Exactly

@@ -1,9 +1,10 @@
 -- Texts byte by byte, up to the closing quote.
-use Rattle.std.proofs.Common.{◌≡◌, ℕ, zero, suc, ◌+◌, ◌<◌, ◌≤◌, Bool, true, false, ◌&&◌, List, [], ◌∷◌, ◌++◌, length, take, drop, refl, sym, ◌∙◌, ap, subst, arith, append_assoc, one-add, Option, Some, None}
+use Rattle.std.proofs.Common.{◌≡◌, ℕ, zero, suc, ◌+◌, ◌<◌, ◌≤◌, Bool, true, false, ◌&&◌, List, [], ◌∷◌, ◌++◌, length, take, drop, get_or, refl, sym, ◌∙◌, ap, subst, arith, append_assoc, one-add, Option, Some, None}
+use Rattle.memchr.specs.Find.{is_byte2}
 use Rattle.std.proofs.lemmas.Bool.{eqb-true, ltb-true, lt-ltb}
 use Rattle.std.proofs.lemmas.Option.{cond_some}
 use Rattle.std.proofs.lemmas.List.{append-nil, take-append-drop, length-append}
-use Rattle.std.specs.Prelude.{nat_eq, nat_lt, not, if◌then◌else◌}
+use Rattle.std.specs.Prelude.{nat_eq, nat_lt, not, ◌||◌, if◌then◌else◌}
 use Rattle.std.specs.List.{list_all, prefix_len}
 use Rattle.std.specs.Cmp.{first_so, second_so}
 use Rattle.lt_lang.specs.Literals.{hex_pair, is_bare, IsPiece, IsBody}
@@ -189,3 +190,31 @@ bare_closed bytes front end rest n len e f closed =
 
 pub bare_unclosed : (bytes end : List ℕ) (n : ℕ) → n ≡ prefix_len is_bare bytes → end ≡ drop n bytes → nat_eq (length end) 0 ≡ true → quoted_at bytes ≡ None
 bare_unclosed bytes end n len f none = bare_stops bytes end (sym (f ∙ ap (λ k. drop k bytes) len)) none
+
+bare_else : (s t : Bool) → (s || t ≡ true → ⊥) → not s && not t ≡ true
+bare_else true t never = absurd (never refl)
+bare_else false true never = absurd (never refl)
+bare_else false false never = refl
+
+not_bare : (s t : Bool) → s || t ≡ true → not s && not t ≡ false
+not_bare true t e = refl
+not_bare false true e = refl
+not_bare false false e = cc
+
+-- the bare bytes end where the first other one stands
+bare_at : (bytes : List ℕ) (k : ℕ) → k ≤ length bytes → ((j : ℕ) → j < k → is_bare (get_or bytes j 0) ≡ true) → (k < length bytes → is_bare (get_or bytes k 0) ≡ false) → k ≡ prefix_len is_bare bytes
+bare_at [] k within all stop = omega arith
+bare_at (b ∷ bs) zero within all stop = let h : is_bare b ≡ false = stop (omega arith) in rw h refl
+bare_at (b ∷ bs) (suc k) within all stop =
+    let first : is_bare b ≡ true = all 0 (omega arith) in
+    let more : k ≡ prefix_len is_bare bs = bare_at bs k (omega arith) (λ j l. all (suc j) (omega arith)) (λ l. stop (omega arith)) in
+    rw (first, ← more) (sym (one-add k))
+
+pub bare_found : (bytes : List ℕ) (k : ℕ) → k < length bytes → ((j : ℕ) → j < k → is_byte2 34 92 (get_or bytes j 0) ≡ true → ⊥) → is_byte2 34 92 (get_or bytes k 0) ≡ true → k ≡ prefix_len is_bare bytes
+bare_found bytes k within before here =
+    bare_at bytes k (omega arith) (λ j l. bare_else (nat_eq (get_or bytes j 0) 34) (nat_eq (get_or bytes j 0) 92) (before j l))
+    (λ l. not_bare (nat_eq (get_or bytes k 0) 34) (nat_eq (get_or bytes k 0) 92) here)
+
+pub bare_all : (bytes : List ℕ) → ((j : ℕ) → j < length bytes → is_byte2 34 92 (get_or bytes j 0) ≡ true → ⊥) → length bytes ≡ prefix_len is_bare bytes
+bare_all bytes before =
+    bare_at bytes (length bytes) (omega arith) (λ j l. bare_else (nat_eq (get_or bytes j 0) 34) (nat_eq (get_or bytes j 0) 92) (before j l)) (λ l. absurd (omega arith))

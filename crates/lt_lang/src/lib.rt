@@ -23,7 +23,7 @@ mod upkeep;
 mod values;
 
 pub use command::{Command, Line};
-pub use laws::{lawful_rows, one_line};
+pub use laws::{lawful_rows, one_line, one_meaning};
 pub use lines::next_line;
 pub use parsing::parse_line;
 pub use printing::{put_client, put_end, put_reply, reply_text};

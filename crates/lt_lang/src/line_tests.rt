@@ -101,6 +101,7 @@ fn remarks_are_skipped(rt: HostRuntime) -> Result<(), Fail> {
         let read = read_line(rt.alloc(), line.as_bytes())?;
         assert!(rt; matches!(&read, Line::Skip), "{line:?} gave {read:?}");
     }
+    one_meaning();
     Ok(())
 }
 

@@ -9,16 +9,17 @@ ghost use Rattle.lt_lang.specs.Parsing.{closed_at, escape_at, hexed_at, piece_at
 use crate::hex::hex_byte_at;
 use crate::tokens::is_ended;
 use lt_rec::{Label, NoMemory};
+use memchr::memchr2;
 use std::alloc::Global;
 
 fn bare_len(bytes: &[u8]) -> usize
     ensures len { result ≡ prefix_len is_bare bytes.now }
     ensures within { result ≤ length bytes.now }
 {
-    bytes
-        .iter()
-        .take_while(|byte| **byte != b'"' && **byte != b'\\')
-        .count()
+    match memchr2(b'"', b'\\', bytes) {
+        Some(at) => at,
+        None => bytes.len(),
+    }
 }
 
 #[tactic(auto, unfolding(crate::specs::Parsing::hexed_at))]

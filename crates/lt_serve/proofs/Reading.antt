@@ -6,6 +6,7 @@ use Rattle.std.proofs.lemmas.List.{append-nil, take-append-le}
 use Rattle.std.proofs.Math.Seq.{take-length}
 use Rattle.lt_lang.specs.Lines.{cut_lines}
 use Rattle.lt_lang.specs.Parsing.{line_at}
+use Rattle.lt_lang.proofs.Exactly.{line_spelled}
 use Rattle.lt_lang.specs.Texts.{reply_text_of, client_line, end_line}
 use Rattle.lt_lang.specs.declared.command.Line.{Line}
 use Rattle.lt_lang.specs.declared.reply.Reply.{Reply}
@@ -14,7 +15,7 @@ use Rattle.lt_model.specs.Readings.{next, kept}
 use Rattle.lt_model.specs.Session.{Client, Block, IsSession, name_of, clients_of}
 use Rattle.lt_model.specs.Growing.{SoFar, seen_after_all}
 use Rattle.lt_model.proofs.Growth.{IsSession-nobody, IsSession-one}
-use Rattle.lt_serve.specs.Session.{any_moment, lines_of, first_name, client_of, MayAnswer, AllMayAnswer, IsBuilt, HasOtherLine, blocks_text, IsText}
+use Rattle.lt_serve.specs.Session.{any_moment, lines_of, AreSpelled, first_name, client_of, MayAnswer, AllMayAnswer, IsBuilt, HasOtherLine, blocks_text, IsText}
 use Rattle.lt_serve.specs.Growing.{told, HasAnswered, ReadSoFar}
 use Rattle.lt_serve.proofs.Telling.{client_of-more, client_of-append, not_later, built_later, told_by_none, clients_of-none, clients_of-ours}
 use Rattle.lt_serve.proofs.Answering.{nothing_answered, no_replies, built_so_far}
@@ -101,12 +102,17 @@ pub IsBuilt-ended : (input rest : List ℕ) (held : Opening) (client : Option (L
 IsBuilt-ended input rest held client text number so_far ended =
     subst (λ (lines : List Line). AllMayAnswer (client_of lines) lines) (sym (all_read input rest held client text number so_far ended)) (built_so_far held client text so_far.lines so_far.answered)
 
+all_spelled : (cut : List (List ℕ)) → AreSpelled cut
+all_spelled [] = tt
+all_spelled (bytes ∷ others) = (line_spelled bytes (line_at bytes) refl, all_spelled others)
+
 pub IsText-ended : (input rest : List ℕ) (held : Opening) (client : Option (List ℕ)) (text whole : List ℕ) (number : ℕ) → ReadSoFar input rest held client text number → rest ≡ []
     → whole ≡ text ++ end_line held.next held.kept → IsText input whole
 IsText-ended input rest held client text whole number so_far ended written =
     let answered = so_far.answered in
     let session = session_of held client text so_far.lines answered in
     record {
+      spelled = all_spelled (cut_lines input);
       blocks = session.blocks;
       history = answered.history;
       opened = answered.opened;

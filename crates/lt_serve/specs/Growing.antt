@@ -8,6 +8,7 @@ use Rattle.lt_lang.specs.declared.reply.Reply.{Reply}
 use Rattle.lt_model.specs.History.{Opening, History}
 use Rattle.lt_model.specs.Growing.{SoFar}
 use Rattle.lt_plain.specs.Table.{StandsFor}
+use Rattle.lt_serve.specs.declared.session.Session.{Session}
 use Rattle.lt_serve.specs.Session.{any_moment, lines_of, client_of, MayAnswer, AllMayAnswer, empty_table}
 
 -- the lines that belong to anybody
@@ -42,6 +43,10 @@ pub record HasAnswered (held : Opening) (client : Option (List ℕ)) (text : Lis
 abbrev pub GoesOn : Bool → Opening → Option (List ℕ) → List ℕ → List Line → Line → Type 0
 GoesOn true held client text before line = HasAnswered held client text (before ++ line ∷ [])
 GoesOn false held client text before line = MayAnswer (client_of (before ++ line ∷ [])) line → ⊥
+
+-- so it is behind all lines that were answered before
+abbrev pub Takes : Bool → Session → Session → Line → Type 0
+Takes on old new line = (before : List Line) → HasAnswered old.table old.client old.text.items before → GoesOn on new.table new.client new.text.items before line
 
 -- the front of the input that was read is answered so far
 pub record ReadSoFar (input rest : List ℕ) (held : Opening) (client : Option (List ℕ)) (text : List ℕ) (number : ℕ) : Type 0 where

@@ -2,6 +2,7 @@
 use Rattle.std.specs.Prelude.{◌≡◌, ◌^◌, ◌<◌, ⊤, ℕ, Bool, true, false, IsTrue, List, [], ◌∷◌, ◌++◌, take, map, slice_get, Option, Some, None}
 use Rattle.std.specs.List.{flat_map, AllByRecursion}
 use Rattle.lt_lang.specs.Lines.{cut_lines}
+use Rattle.lt_lang.specs.Sentences.{IsSpelled}
 use Rattle.lt_lang.specs.Parsing.{line_at}
 use Rattle.lt_lang.specs.Table.{table_schema}
 use Rattle.lt_lang.specs.Texts.{block_text, end_line}
@@ -21,6 +22,10 @@ any_moment now = now < 2 ^ 62
 -- what the input's lines say
 abbrev pub lines_of : List ℕ → List Line
 lines_of input = map line_at (cut_lines input)
+
+-- each of these spells what is read of it
+abbrev pub AreSpelled : List (List ℕ) → Type 0
+AreSpelled lines = AllByRecursion (λ bytes. IsSpelled bytes (line_at bytes)) lines
 
 -- the commands that are built
 abbrev pub is_built : Command → Bool
@@ -70,9 +75,10 @@ blocks_text blocks = flat_map (λ (block : Block). block_text block.name block.r
 abbrev pub empty_table : Opening
 empty_table = empty_of (record { first = table_schema; changes = [] })
 
--- The text of a session over the input: there is one history, which began as the empty table, and at whose fronts each
+-- The text of a session over the input: its lines are spelled as the grammar says, and there is one history, which began as the empty table, and at whose fronts each
 -- line of each client is answered; the text is the clients' blocks, and the next and the settled number at its end.
 pub record IsText (input text : List ℕ) : Type 0 where
+  pub spelled : AreSpelled (cut_lines input)
   pub blocks : List Block
   pub history : History
   pub opened : history.opening ≡ empty_table

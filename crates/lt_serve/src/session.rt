@@ -1,11 +1,10 @@
 //! A session: each line in turn, answered by the table at the end of its history.
 ghost use Rattle.std.specs.Prelude.{◌≡◌, ◌↔◌, ◌++◌, [], List, IsTrue, IfOk, IfSome, OnOk, OnErr, Some, is_some};
 ghost use Rattle.lt_lang.specs.Texts.{end_line};
-ghost use Rattle.lt_lang.specs.declared.command.Line.{Line as AnyLine};
 ghost use Rattle.lt_lang.specs.declared.command.Line.TheVariants.{Bad, Command as CommandLine};
 ghost use Rattle.lt_plain.specs.Table.{Answers as AnswersCommand};
 ghost use Rattle.lt_serve.specs.Session.{is_built, first_name};
-ghost use Rattle.lt_serve.specs.Growing.{head_for, HasAnswered, GoesOn};
+ghost use Rattle.lt_serve.specs.Growing.{head_for, HasAnswered, Takes};
 ghost use Rattle.lt_serve.specs.Answered.{Answers};
 
 use crate::answered::Answered;
@@ -77,7 +76,7 @@ impl Session {
     }
 
     fn answer_bad(&mut self, client: Label, at: u64) -> Result<bool, NoMemory>
-        ensures { IfOk result (λ on. (lines : List AnyLine) → HasAnswered self.old.table self.old.client self.old.text.items lines → GoesOn on self.new.table self.new.client self.new.text.items lines (Bad client at)) }
+        ensures { IfOk result (λ on. Takes on self.old self.new (Bad client at)) }
     {
         if !self.is_ours(client)? {
             return Ok(false);
@@ -93,7 +92,7 @@ impl Session {
         moment: Option<u64>,
         command: Command,
     ) -> Result<bool, NoMemory>
-        ensures { IfOk result (λ on. (lines : List AnyLine) → HasAnswered self.old.table self.old.client self.old.text.items lines → GoesOn on self.new.table self.new.client self.new.text.items lines (CommandLine client moment command)) }
+        ensures { IfOk result (λ on. Takes on self.old self.new (CommandLine client moment command)) }
     {
         if !self.is_ours(client)? {
             return Ok(false);
@@ -108,7 +107,7 @@ impl Session {
 
     /// Answers the line, unless it is another client's or asks for what isn't built.
     fn answer(&mut self, alloc: Global, line: Line) -> Result<bool, NoMemory>
-        ensures { IfOk result (λ on. (lines : List AnyLine) → HasAnswered self.old.table self.old.client self.old.text.items lines → GoesOn on self.new.table self.new.client self.new.text.items lines line) }
+        ensures { IfOk result (λ on. Takes on self.old self.new line) }
     {
         match line {
             Line::Skip => Ok(true),

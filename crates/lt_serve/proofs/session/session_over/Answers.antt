@@ -13,7 +13,7 @@ returns-then-not-branch c =
     let new = c.answer.new.self in
     let stops : GoesOn false new.table new.client new.text.items so_far.lines line =
     subst (λ (on : Bool). GoesOn on new.table new.client new.text.items so_far.lines line) c.if-not-branch.true (c.in_ok-answer.ensures so_far.lines so_far.answered) in
-    HasOtherLine-found c.args.input.now c.loop-bytes.rest.now c.in-Some.after.now _ _ _ c.loop-bytes.number c.in-Some.bytes.now line so_far c.in-Some.ensures.cut c.in_ok-line.ensures stops
+    HasOtherLine-found c.args.input.now c.loop-bytes.rest.now c.in-Some.after.now _ _ _ c.loop-bytes.number c.in-Some.bytes.now line so_far c.in-Some.ensures.cut c.in_ok-line.ensures.exact stops
 
 pub loop-bytes-preserved : goal.loop-bytes-preserved
 loop-bytes-preserved c =
@@ -23,7 +23,7 @@ loop-bytes-preserved c =
     let goes : GoesOn true new.table new.client new.text.items so_far.lines line =
     subst (λ (on : Bool). GoesOn on new.table new.client new.text.items so_far.lines line) c.if-not-branch.false (c.in_ok-answer.ensures so_far.lines so_far.answered) in
     ReadSoFar-more c.args.input.now c.loop-bytes.rest.now c.in-Some.after.now _ new.table _ new.client _ new.text.items c.loop-bytes.number c.in-Some.bytes.now line so_far
-    c.in-Some.ensures.cut c.in-Some.ensures.shorter c.in_ok-line.ensures goes
+    c.in-Some.ensures.cut c.in-Some.ensures.shorter c.in_ok-line.ensures.exact goes
 
 pub returns : goal.returns
 returns c =
