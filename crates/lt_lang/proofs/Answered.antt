@@ -1,31 +1,27 @@
 -- Commands and lines that were read are so spelled.
-use Rattle.std.proofs.Common.{◌≡◌, ℕ, zero, suc, ◌+◌, ◌-◌, ◌^◌, ◌<◌, ◌≤◌, Bool, true, false, List, [], ◌∷◌, ◌++◌, length, take, drop, refl, sym, ◌∙◌, ap, subst, arith, append_assoc, Option, Some, None, inl, inr}
+use Rattle.std.proofs.Common.{◌≡◌, ℕ, ◌-◌, ◌^◌, Bool, true, false, List, [], ◌∷◌, ◌++◌, length, take, drop, refl, sym, ◌∙◌, ap, subst, arith, Option, Some, None, inl, inr}
 use Rattle.std.proofs.lemmas.List.{append-nil, take-append-drop}
 use Rattle.std.proofs.lemmas.Bool.{eqb-true}
-use Rattle.std.proofs.lemmas.Option.{cond_some}
-use Rattle.std.specs.Prelude.{nat_eq, if◌then◌else◌, codes, Result, Ok, Err, ◌⊎◌}
+use Rattle.std.specs.Prelude.{nat_eq, if◌then◌else◌, codes, Result, Ok, Err}
 use Rattle.std.specs.List.{list_all, prefix_len}
-use Rattle.lt_schema.specs.Names.{is_name, is_name_byte}
+use Rattle.lt_schema.specs.Names.{is_name}
 use Rattle.lt_schema.specs.declared.kind.Kind.{Kind}
 use Rattle.lt_schema.specs.declared.value.Value.{Value}
 use Rattle.lt_schema.specs.declared.change.Change.{Change}
 use Rattle.lt_schema.specs.declared.change.Change.TheVariants.{Append, Widen}
-use Rattle.lt_schema.specs.Shapes.{ColumnShape}
 use Rattle.lt_lang.specs.declared.command.Command.{Command}
 use Rattle.lt_lang.specs.declared.command.Command.TheVariants.{Insert, Scan, Latest, Flush, Upkeep, Alter, Tablets}
-use Rattle.lt_lang.specs.declared.command.Line.{Line}
 use Rattle.lt_lang.specs.declared.command.Line.TheVariants as lines
 use Rattle.lt_lang.specs.declared.query.Edge.{Edge}
 use Rattle.lt_lang.specs.declared.query.Query.{Query}
-use Rattle.lt_lang.specs.Grammar.{IsCount}
-use Rattle.lt_lang.specs.Tokens.{is_space, is_quoted, skipped}
-use Rattle.lt_lang.specs.Literals.{IsLit, AreLits}
-use Rattle.lt_lang.specs.Sentences.{Next, Front, IsClient, IsMomentToken, IsOptional, IsEdge, IsSomeEdge, IsTimes, IsSomeTimes, IsDirection, IsLimit, IsSomeLimit, IsScan, IsDefault, IsAppend, IsChange, IsRest, command_word, IsSentence, IsSkipped, is_remark, blank_of, kind_word}
-use Rattle.lt_lang.specs.Parsing.{◌>>=◌, same, needed_count, maybe_count, maybe_moment, next_word, behind_next, after_word, literal_at, literals_at, edge_by, edge_after, edge_at, times_after, times_at, direction_after, direction_at, limit_after, limit_at, query_of, scan_at, default_by, default_at, needed_name, needed_kind, column_of, append_at, widen_at, change_after, change_at, stopped, said, says, command_by, command_at, last_command, request_at, client_line, line_by, line_at, client_of}
+use Rattle.lt_lang.specs.Tokens.{is_space, skipped}
+use Rattle.lt_lang.specs.Literals.{AreLits}
+use Rattle.lt_lang.specs.Sentences.{Next, Front, IsClient, IsEdge, IsSomeEdge, IsTimes, IsSomeTimes, IsDirection, IsLimit, IsSomeLimit, IsScan, IsDefault, IsAppend, IsChange, IsRest, command_word, AreTokens, IsSentence, IsSkipped, is_remark, kind_word}
+use Rattle.lt_lang.specs.Parsing.{◌>>=◌, same, needed_count, maybe_count, maybe_moment, next_word, behind_next, after_word, literal_at, literals_at, edge_by, edge_after, edge_at, times_after, times_at, direction_after, direction_at, limit_after, limit_at, query_of, scan_at, default_by, default_at, needed_name, needed_kind, column_of, append_at, widen_at, change_after, change_at, stopped, said, command_by, command_at, last_command, request_at, client_line, line_by, line_at, client_of}
 use Rattle.lt_lang.proofs.Pieces.{all_front}
 use Rattle.lt_lang.proofs.WordForms.{IsStart, same-read, client_of-read, client_of-start}
 use Rattle.lt_lang.proofs.Gaps.{front-append}
-use Rattle.lt_lang.proofs.Understood.{TakesToken, TakesTokens, read_ok, ok_same, next_so, needed_count-read, maybe_count-read, maybe_moment-read, needed_name-read, needed_kind-read, after_word-read, literal_at-read, literals_at-read}
+use Rattle.lt_lang.proofs.Understood.{TakesTokens, read_ok, ok_same, next_so, needed_count-read, maybe_count-read, maybe_moment-read, needed_name-read, needed_kind-read, after_word-read, literal_at-read, literals_at-read}
 
 -- what holds of a first reader's find and the next one's holds of both
 both_ok : (A B P : Type 0) (r : Result A ℕ) (f : A → Result B ℕ) (y : B) → (r >>= f) ≡ read_ok B y → ((x : A) → r ≡ read_ok A x → f x ≡ read_ok B y → P) → P
@@ -38,7 +34,7 @@ AreLits-length [] (value ∷ values) are = absurd are
 AreLits-length (token ∷ tokens) [] are = absurd are
 AreLits-length (token ∷ tokens) (value ∷ values) are = let h = AreLits-length tokens values are.1 in omega arith
 
-abbrev edge_word : List ℕ → List ℕ → Bool → List ℕ
+abbrev pub edge_word : List ℕ → List ℕ → Bool → List ℕ
 edge_word weak strict t = if t then strict else weak
 
 edge_some : (weak strict : List ℕ) (t : Bool) (bytes rest : List ℕ) (tokens : List (List ℕ)) (values : List Value) (after : List ℕ) (p : Option Edge × List ℕ)
@@ -66,12 +62,12 @@ edge_cases weak strict bytes None None p f g eq eq2 e =
     let found : TakesTokens (Option Edge) (IsEdge weak strict) bytes (None, bytes) = record { tokens = []; front = refl; is = refl } in
     subst (TakesTokens (Option Edge) (IsEdge weak strict) bytes) (ok_same (Option Edge × List ℕ) (None, bytes) p e) found
 
-edge_at-read : (weak strict bytes : List ℕ) (p : Option Edge × List ℕ) → IsStart weak → IsStart strict → edge_at weak strict bytes ≡ read_ok (Option Edge × List ℕ) p
+pub edge_at-read : (weak strict bytes : List ℕ) (p : Option Edge × List ℕ) → IsStart weak → IsStart strict → edge_at weak strict bytes ≡ read_ok (Option Edge × List ℕ) p
     → TakesTokens (Option Edge) (IsEdge weak strict) bytes p
 unfolding edge_at
 edge_at-read weak strict bytes p f g e = edge_cases weak strict bytes (after_word weak bytes) (after_word strict bytes) p f g refl refl e
 
-abbrev AreTimes : List (List ℕ) → ℕ × ℕ → Type 0
+abbrev pub AreTimes : List (List ℕ) → ℕ × ℕ → Type 0
 AreTimes tokens times = IsTimes tokens times.0 times.1
 
 times_cases : (bytes : List ℕ) (r : Option (List ℕ)) (p : (ℕ × ℕ) × List ℕ) → after_word (codes "time") bytes ≡ r → times_after r bytes ≡ read_ok ((ℕ × ℕ) × List ℕ) p → TakesTokens (ℕ × ℕ) AreTimes bytes p
@@ -92,7 +88,7 @@ times_cases bytes (Some rest) p eq e =
     } in
     subst (TakesTokens (ℕ × ℕ) AreTimes bytes) (ok_same ((ℕ × ℕ) × List ℕ) ((from.0, to.0), to.1) p e3) found))
 
-times_at-read : (bytes : List ℕ) (p : (ℕ × ℕ) × List ℕ) → times_at bytes ≡ read_ok ((ℕ × ℕ) × List ℕ) p → TakesTokens (ℕ × ℕ) AreTimes bytes p
+pub times_at-read : (bytes : List ℕ) (p : (ℕ × ℕ) × List ℕ) → times_at bytes ≡ read_ok ((ℕ × ℕ) × List ℕ) p → TakesTokens (ℕ × ℕ) AreTimes bytes p
 unfolding times_at
 times_at-read bytes p e = times_cases bytes (after_word (codes "time") bytes) p refl e
 
@@ -109,7 +105,7 @@ direction_cases bytes None (Some rest) eq eq2 = record {
 }
 direction_cases bytes None None eq eq2 = record { tokens = []; front = refl; is = inl (refl, refl) }
 
-direction_at-read : (bytes : List ℕ) → TakesTokens Bool IsDirection bytes (direction_at bytes)
+pub direction_at-read : (bytes : List ℕ) → TakesTokens Bool IsDirection bytes (direction_at bytes)
 unfolding direction_at
 direction_at-read bytes = direction_cases bytes (after_word (codes "asc") bytes) (after_word (codes "desc") bytes) refl refl
 
@@ -252,7 +248,7 @@ said-read : (A : Type 0) (say : A → Command) (r : Result (A × List ℕ) ℕ) 
 said-read A say (Ok q) p P e each = each q refl e
 said-read A say (Err left) p P e each = cc
 
-command_at-read : (bytes : List ℕ) (p : Command × List ℕ) → command_at bytes ≡ read_ok (Command × List ℕ) p → TakesTokens Command IsCommand bytes p
+pub command_at-read : (bytes : List ℕ) (p : Command × List ℕ) → command_at bytes ≡ read_ok (Command × List ℕ) p → TakesTokens Command IsCommand bytes p
 unfolding command_at command_by
 command_at-read bytes p e =
     let P = TakesTokens Command IsCommand bytes p in
@@ -306,15 +302,20 @@ request-read bytes rest name request next is e =
     let m = maybe_moment-read rest in
     let t = last_command-read (maybe_moment rest).1 command f in
     let front : Front (command_word command ∷ t.is.rest) (maybe_moment rest).1 t.rest = subst (λ ts. Front ts (maybe_moment rest).1 t.rest) t.is.spelled t.front in
-    let found : IsSentence bytes name (maybe_moment rest).0 command = record {
+    let are : AreTokens ((name ++ codes ":") ∷ (m.tokens ++ command_word command ∷ t.is.rest)) name (maybe_moment rest).0 command = record {
       moment_tokens = m.tokens;
-      tokens = t.is.rest;
-      rest = t.rest;
-      front = (rest, next, front-append m.tokens (command_word command ∷ t.is.rest) rest (maybe_moment rest).1 t.rest m.front front);
-      ends = spaces_of t.rest t.ends;
+      rest = t.is.rest;
+      spelled = refl;
       name = is;
       when = m.is;
       means = t.is.means;
+    } in
+    let found : IsSentence bytes name (maybe_moment rest).0 command = record {
+      tokens = (name ++ codes ":") ∷ (m.tokens ++ command_word command ∷ t.is.rest);
+      rest = t.rest;
+      front = (rest, next, front-append m.tokens (command_word command ∷ t.is.rest) rest (maybe_moment rest).1 t.rest m.front front);
+      ends = spaces_of t.rest t.ends;
+      are = are;
     } in
     subst (λ (q : Option ℕ × Command). IsSentence bytes name q.0 q.1) (ok_same (Option ℕ × Command) ((maybe_moment rest).0, command) request e2) found)
 

@@ -1,5 +1,5 @@
 -- A line that was read, and all that spells it.
-use Rattle.std.proofs.Common.{◌≡◌, ℕ, List, refl, sym, ◌∙◌, Option}
+use Rattle.std.proofs.Common.{◌≡◌, ℕ, List, sym, ◌∙◌, Option}
 use Rattle.std.specs.Prelude.{Result, Ok, Err, IfOk}
 use Rattle.lt_lang.specs.declared.command.Command.{Command}
 use Rattle.lt_lang.specs.declared.command.Line.{Line}
@@ -8,12 +8,13 @@ use Rattle.lt_lang.specs.Sentences.{IsSentence, IsSkipped, IsSpelled}
 use Rattle.lt_lang.specs.Parsing.{line_at}
 use Rattle.lt_lang.proofs.Answered.{line_at-command, line_at-skip}
 use Rattle.lt_lang.proofs.Wanted.{sentence_line, skip_line}
+use Rattle.lt_lang.proofs.Stopped.{line_at-bad}
 
 pub line_spelled : (bytes : List ℕ) (line : Line) → line ≡ line_at bytes → IsSpelled bytes line
 line_spelled bytes lines.Skip e = line_at-skip bytes (sym e)
 line_spelled bytes (lines.Command client moment command) e = line_at-command bytes client moment command (sym e)
 line_spelled bytes (lines.Bad client at) e =
-    ((λ is. let h = skip_line bytes is in cc), (λ other moment command is. let h = sentence_line bytes other moment command is in cc))
+    (line_at-bad bytes client at (sym e), (λ is. let h = skip_line bytes is in cc), (λ other moment command is. let h = sentence_line bytes other moment command is in cc))
 
 pub read_so : {E : Type 0} (bytes : List ℕ) (r : Result Line E) → IfOk r (λ read. read ≡ line_at bytes) → IfOk r (IsSpelled bytes)
 read_so bytes (Ok line) e = line_spelled bytes line e

@@ -1,9 +1,9 @@
 -- Bytes by their digits, two by two.
-use Rattle.std.proofs.Common.{◌≡◌, ℕ, zero, suc, ◌+◌, ◌<◌, ◌≤◌, Bool, true, false, List, [], ◌∷◌, ◌++◌, length, refl, sym, ◌∙◌, ap, arith, append_assoc, Option, Some, None}
+use Rattle.std.proofs.Common.{◌≡◌, ℕ, ◌<◌, true, false, List, [], ◌∷◌, ◌++◌, length, refl, sym, ◌∙◌, ap, arith, append_assoc, Option, Some, None}
 use Rattle.std.proofs.lemmas.List.{append-nil}
 use Rattle.std.proofs.lemmas.Bool.{eqb-true}
 use Rattle.std.specs.Prelude.{nat_eq}
-use Rattle.lt_lang.specs.Literals.{hex_pair, IsHex}
+use Rattle.lt_lang.specs.Literals.{hex_pair}
 use Rattle.lt_lang.specs.Parsing.{beside, byte_onto, hex_byte_at, hex_of}
 
 -- what was read before, and what is still read

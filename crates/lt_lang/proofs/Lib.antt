@@ -16,4 +16,5 @@ mod Understood
 mod Answered
 mod Spoken
 mod Wanted
+mod Stopped
 pub mod Exactly

@@ -1,13 +1,13 @@
 -- Reading literals one after the other, as a loop does.
-use Rattle.std.proofs.Common.{◌≡◌, ℕ, zero, suc, ◌+◌, ◌<◌, ◌≤◌, Bool, true, false, List, [], ◌∷◌, ◌++◌, length, take, drop, refl, sym, ◌∙◌, ap, arith, append_assoc, length-drop, one-add, Option, Some, None}
+use Rattle.std.proofs.Common.{◌≡◌, ℕ, zero, suc, ◌+◌, ◌<◌, ◌≤◌, Bool, true, false, List, [], ◌∷◌, ◌++◌, length, take, drop, refl, sym, ◌∙◌, ap, arith, append_assoc, length-drop, Option, Some, None}
 use Rattle.std.proofs.lemmas.List.{append-nil}
 use Rattle.std.proofs.lemmas.Option.{cond_some}
-use Rattle.std.specs.Prelude.{nat_eq, not, if◌then◌else◌}
+use Rattle.std.specs.Prelude.{nat_eq, if◌then◌else◌}
 use Rattle.std.specs.List.{prefix_len}
 use Rattle.lt_schema.specs.declared.value.Value.{Value}
 use Rattle.lt_schema.specs.declared.value.Value.TheVariants.{Text}
 use Rattle.lt_lang.specs.Reading.{after, count_at, integer_at, unsigned_at}
-use Rattle.lt_lang.specs.Tokens.{is_space, is_solid, is_ended, is_quoted, skipped, word_of, behind}
+use Rattle.lt_lang.specs.Tokens.{is_space, is_solid, is_ended, skipped, word_of, behind}
 use Rattle.lt_lang.specs.Parsing.{beside, integer_of, word_value, quoted_at, text_by, text_beside, text_behind, utf8_of, literal_here, literal_at, value_onto, literals_by, literals_within, literals_at}
 use Rattle.lt_lang.proofs.Pieces.{quoted_at-shorter}
 

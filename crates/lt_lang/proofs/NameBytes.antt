@@ -1,14 +1,14 @@
 -- The bytes of names are ASCII.
-use Rattle.std.proofs.Common.{◌≡◌, ℕ, zero, suc, ◌<◌, ◌≤◌, Bool, true, false, ◌&&◌, List, [], ◌∷◌, length, take, drop, get_or, refl, sym, ◌∙◌, ap, arith, Option, Some, None}
+use Rattle.std.proofs.Common.{◌≡◌, ℕ, zero, suc, ◌<◌, ◌≤◌, Bool, true, false, ◌&&◌, List, [], ◌∷◌, length, take, drop, refl, sym, ◌∙◌, ap, arith, Some, None}
 use Rattle.std.proofs.lemmas.Bool.{eqb-true, leb-true}
 use Rattle.std.proofs.lemmas.Option.{cond_some}
-use Rattle.std.specs.Prelude.{nat_eq, nat_le, ◌||◌, if◌then◌else◌, codes, Result, Ok, Err}
+use Rattle.std.specs.Prelude.{nat_eq, nat_le, ◌||◌, if◌then◌else◌, codes, Ok}
 use Rattle.std.specs.List.{list_all, prefix_len}
 use Rattle.std.specs.Str.{IsAscii}
 use Rattle.std.specs.Cmp.{first_so, second_so}
 use Rattle.std.specs.Cmp.Lexicographic.{pointwise}
 use Rattle.lt_schema.specs.Names.{is_letter, is_name, is_name_byte}
-use Rattle.lt_lang.specs.Parsing.{client_of, name_by, needed, column_name, needed_name, next_word, behind_next}
+use Rattle.lt_lang.specs.Parsing.{client_of, needed, needed_name, next_word, behind_next}
 use Rattle.lt_lang.proofs.Pieces.{all_front}
 
 below_by : (s t u : Bool) (b : ℕ) → (s ≡ true → b ≤ 122) → (t ≡ true → b ≤ 57) → (u ≡ true → b ≡ 95) → (s || t) || u ≡ true → b < 128

@@ -1,15 +1,15 @@
 -- Texts byte by byte, up to the closing quote.
 use Rattle.std.proofs.Common.{◌≡◌, ℕ, zero, suc, ◌+◌, ◌<◌, ◌≤◌, Bool, true, false, ◌&&◌, List, [], ◌∷◌, ◌++◌, length, take, drop, get_or, refl, sym, ◌∙◌, ap, subst, arith, append_assoc, one-add, Option, Some, None}
 use Rattle.memchr.specs.Find.{is_byte2}
-use Rattle.std.proofs.lemmas.Bool.{eqb-true, ltb-true, lt-ltb}
+use Rattle.std.proofs.lemmas.Bool.{eqb-true, ltb-true}
 use Rattle.std.proofs.lemmas.Option.{cond_some}
 use Rattle.std.proofs.lemmas.List.{append-nil, take-append-drop, length-append}
 use Rattle.std.specs.Prelude.{nat_eq, nat_lt, not, ◌||◌, if◌then◌else◌}
 use Rattle.std.specs.List.{list_all, prefix_len}
 use Rattle.std.specs.Cmp.{first_so, second_so}
-use Rattle.lt_lang.specs.Literals.{hex_pair, is_bare, IsPiece, IsBody}
-use Rattle.lt_lang.specs.Parsing.{beside, low_only, hex_byte_at, hexed_at, escape_at, piece_at, closed_at, onto, quoted_by, quoted_within, quoted_at}
-use Rattle.lt_lang.proofs.HexDigits.{TakesHex, parts_same, hex_byte_at-read}
+use Rattle.lt_lang.specs.Literals.{is_bare, IsPiece, IsBody}
+use Rattle.lt_lang.specs.Parsing.{low_only, hex_byte_at, hexed_at, escape_at, piece_at, closed_at, onto, quoted_by, quoted_within, quoted_at}
+use Rattle.lt_lang.proofs.HexDigits.{hex_byte_at-read}
 
 -- one byte of a text in front
 pub record TakesPiece (bytes : List ℕ) (p : ℕ × List ℕ) : Type 0 where

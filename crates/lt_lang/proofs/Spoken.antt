@@ -1,17 +1,17 @@
 -- Literals that are so spelled are read.
-use Rattle.std.proofs.Common.{◌≡◌, ℕ, ℤ, pos, zero, suc, ◌+◌, ◌<◌, ◌≤◌, Bool, true, false, ◌&&◌, List, [], ◌∷◌, ◌++◌, length, take, drop, refl, sym, ◌∙◌, ap, subst, arith, append_assoc, Option, Some, None, inl, inr}
-use Rattle.std.proofs.lemmas.List.{append-nil, length-append}
+use Rattle.std.proofs.Common.{◌≡◌, ℕ, ℤ, pos, zero, suc, ◌<◌, ◌≤◌, Bool, true, false, List, [], ◌∷◌, ◌++◌, length, refl, sym, ◌∙◌, ap, arith, append_assoc, Option, Some, None}
+use Rattle.std.proofs.lemmas.List.{length-append}
 use Rattle.std.proofs.lemmas.Bool.{eqb-true, lt-ltb}
-use Rattle.std.specs.Prelude.{nat_eq, nat_lt, not, if◌then◌else◌, codes}
+use Rattle.std.specs.Prelude.{nat_eq, if◌then◌else◌, codes}
 use Rattle.std.specs.Option.{option_map}
 use Rattle.lt_schema.specs.declared.value.Value.{Value}
 use Rattle.lt_schema.specs.declared.value.Value.TheVariants.{Int, Text, Blob}
 use Rattle.lt_lang.specs.Grammar.{IsInteger}
 use Rattle.lt_lang.specs.Reading.{after, integer_at, unsigned_at, count_at}
-use Rattle.lt_lang.specs.Tokens.{is_ended, is_quoted, IsRun, skipped, word_of, behind}
+use Rattle.lt_lang.specs.Tokens.{is_ended, is_quoted}
 use Rattle.lt_lang.specs.Literals.{hex_pair, IsHex, is_bare, IsPiece, IsBody, IsText, IsBlob, IsLit, AreLits}
 use Rattle.lt_lang.specs.Sentences.{Next, Front}
-use Rattle.lt_lang.specs.Parsing.{beside, byte_onto, low_only, hex_byte_at, hexed_at, escape_at, piece_at, closed_at, onto, quoted_by, quoted_within, quoted_at, utf8_of, text_by, text_beside, text_behind, hex_of, whole, integer_of, word_value_by, word_value, literal_here, literal_at, literals_by, literals_within, literals_at, value_onto}
+use Rattle.lt_lang.specs.Parsing.{hex_byte_at, hexed_at, escape_at, piece_at, onto, quoted_by, quoted_within, quoted_at, text_by, text_behind, hex_of, whole, integer_of, word_value_by, word_value, literal_here, literal_at, literals_by, literals_within, literals_at, value_onto}
 use Rattle.lt_lang.proofs.Taken.{after-read, after-only}
 use Rattle.lt_lang.proofs.Utf8.{utf8_of-yes}
 use Rattle.lt_lang.proofs.Pieces.{piece-bare, some_piece}

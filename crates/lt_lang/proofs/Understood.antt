@@ -1,10 +1,10 @@
 -- Literals and options that were read are so spelled.
-use Rattle.std.proofs.Common.{◌≡◌, ℕ, ℤ, zero, suc, ◌+◌, ◌<◌, ◌≤◌, Bool, true, false, List, [], ◌∷◌, ◌++◌, length, take, drop, refl, sym, ◌∙◌, ap, subst, arith, append_assoc, Option, Some, None, inl, inr}
-use Rattle.std.proofs.lemmas.List.{append-nil, take-append-drop}
+use Rattle.std.proofs.Common.{◌≡◌, ℕ, ℤ, zero, suc, Bool, true, false, List, [], ◌∷◌, ◌++◌, length, take, drop, refl, sym, ◌∙◌, ap, subst, append_assoc, Option, Some, None, inl, inr}
+use Rattle.std.proofs.lemmas.List.{take-append-drop}
 use Rattle.std.proofs.lemmas.Bool.{eqb-true}
 use Rattle.std.proofs.lemmas.Option.{cond_some}
-use Rattle.std.specs.Prelude.{nat_eq, not, if◌then◌else◌, codes, Result, Ok, Err}
-use Rattle.std.specs.List.{list_all, prefix_len}
+use Rattle.std.specs.Prelude.{nat_eq, if◌then◌else◌, codes, Result, Ok}
+use Rattle.std.specs.List.{prefix_len}
 use Rattle.std.specs.Option.{option_map}
 use Rattle.std.specs.Str.{IsUtf8}
 use Rattle.lt_schema.specs.Names.{is_name}
@@ -13,10 +13,10 @@ use Rattle.lt_schema.specs.declared.value.Value.{Value}
 use Rattle.lt_schema.specs.declared.value.Value.TheVariants.{Int, Text, Blob}
 use Rattle.lt_lang.specs.Grammar.{IsCount}
 use Rattle.lt_lang.specs.Reading.{after, count_at, integer_at, unsigned_at}
-use Rattle.lt_lang.specs.Tokens.{is_space, is_solid, is_ended, is_quoted, skipped, word_of, behind}
+use Rattle.lt_lang.specs.Tokens.{is_space, is_solid, is_ended, skipped, word_of, behind}
 use Rattle.lt_lang.specs.Literals.{hex_pair, IsHex, IsBody, IsText, IsBlob, IsLit, AreLits, IsToken}
 use Rattle.lt_lang.specs.Sentences.{Next, Front, IsOptional, IsMomentToken, kind_word}
-use Rattle.lt_lang.specs.Parsing.{beside, byte_onto, hex_of, integer_of, word_value_by, word_value, quoted_at, quoted_within, utf8_of, text_by, text_beside, text_behind, literal_here, literal_at, literals_by, literals_within, literals_at, needed, maybe, same, next_word, behind_next, after_word, count_of, moment_of, column_name, kind_of, needed_count, maybe_count, maybe_moment, needed_name, needed_kind}
+use Rattle.lt_lang.specs.Parsing.{beside, byte_onto, hex_of, integer_of, word_value_by, word_value, quoted_at, utf8_of, text_by, text_beside, text_behind, literal_here, literal_at, literals_by, literals_within, literals_at, needed, maybe, same, next_word, behind_next, after_word, count_of, moment_of, column_name, kind_of, needed_count, maybe_count, maybe_moment, needed_name, needed_kind}
 use Rattle.lt_lang.proofs.Taken.{after-read}
 use Rattle.lt_lang.proofs.Utf8.{utf8_of-read}
 use Rattle.lt_lang.proofs.Pieces.{all_front, TakesBody, quoted-read}

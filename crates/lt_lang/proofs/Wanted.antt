@@ -1,31 +1,29 @@
 -- Commands and lines that are so spelled are read.
-use Rattle.std.proofs.Common.{◌≡◌, ℕ, zero, suc, ◌+◌, ◌-◌, ◌^◌, ◌<◌, ◌≤◌, Bool, true, false, ◌&&◌, List, [], ◌∷◌, ◌++◌, length, take, drop, refl, sym, ◌∙◌, ap, subst, arith, append_assoc, Option, Some, None, inl, inr}
+use Rattle.std.proofs.Common.{◌≡◌, ℕ, ◌-◌, ◌^◌, ◌≤◌, Bool, true, false, List, [], ◌∷◌, ◌++◌, length, refl, sym, ◌∙◌, ap, subst, arith, Option, Some, None, inl, inr}
 use Rattle.std.proofs.lemmas.List.{append-nil}
 use Rattle.std.proofs.lemmas.Bool.{eqb-true}
-use Rattle.std.specs.Prelude.{nat_eq, nat_le, not, if◌then◌else◌, codes, Result, Ok, Err, ◌⊎◌, ⊤}
+use Rattle.std.specs.Prelude.{nat_eq, not, if◌then◌else◌, codes, Result, Ok, ◌⊎◌, ⊤}
 use Rattle.std.specs.List.{list_all, prefix_len}
 use Rattle.std.specs.Cmp.{first_so, second_so}
 use Rattle.lt_schema.specs.Names.{is_name, is_name_byte}
 use Rattle.lt_schema.specs.declared.kind.Kind.{Kind}
-use Rattle.lt_schema.specs.declared.kind.Kind.TheVariants.{Int32, Int64, Time, Text as TextKind, Blob as BlobKind}
 use Rattle.lt_schema.specs.declared.value.Value.{Value}
 use Rattle.lt_schema.specs.declared.change.Change.{Change}
 use Rattle.lt_schema.specs.declared.change.Change.TheVariants.{Append, Widen}
 use Rattle.lt_schema.specs.Shapes.{ColumnShape}
 use Rattle.lt_lang.specs.declared.command.Command.{Command}
 use Rattle.lt_lang.specs.declared.command.Command.TheVariants.{Insert, Scan, Latest, Flush, Upkeep, Alter, Tablets}
-use Rattle.lt_lang.specs.declared.command.Line.{Line}
 use Rattle.lt_lang.specs.declared.command.Line.TheVariants as lines
 use Rattle.lt_lang.specs.declared.query.Edge.{Edge}
 use Rattle.lt_lang.specs.declared.query.Query.{Query}
 use Rattle.lt_lang.specs.Grammar.{IsCount}
 use Rattle.lt_lang.specs.Reading.{after, integer_at, unsigned_at, count_at}
-use Rattle.lt_lang.specs.Tokens.{is_space, is_quoted, is_ended, skipped, word_of, behind}
-use Rattle.lt_lang.specs.Literals.{IsLit, AreLits}
-use Rattle.lt_lang.specs.Sentences.{Next, Front, IsClient, IsMomentToken, IsOptional, IsEdge, IsSomeEdge, IsTimes, IsSomeTimes, IsDirection, IsLimit, IsSomeLimit, IsScan, IsDefault, IsAppend, IsChange, IsRest, command_word, IsSentence, IsSkipped, is_remark, blank_of, kind_word}
-use Rattle.lt_lang.specs.Parsing.{◌>>=◌, same, beside, integer_of, word_value, literal_here, needed, maybe, count_of, moment_of, column_name, kind_of, needed_count, maybe_count, maybe_moment, needed_name, needed_kind, next_word, behind_next, after_word, literal_at, literals_at, edge_by, edge_after, edge_at, times_after, times_at, direction_after, direction_at, limit_after, limit_at, query_of, scan_at, default_by, default_at, column_of, append_at, widen_at, change_after, change_at, stopped, said, says, command_by, command_at, last_command, request_at, client_line, line_by, line_at, client_of}
-use Rattle.lt_lang.proofs.WordForms.{IsStart, same-read, same-only, count_of-only, count_of-start, moment_of-only, moment_of-start, column_name-only, column_name-start, kind_of-only, kind_of-start, IsClientToken, client_of-only, client_of-start}
-use Rattle.lt_lang.proofs.Gaps.{skip_gap, skipped_next, next_is, Split, front-split}
+use Rattle.lt_lang.specs.Tokens.{is_space, is_quoted, skipped, word_of}
+use Rattle.lt_lang.specs.Literals.{AreLits}
+use Rattle.lt_lang.specs.Sentences.{Next, Front, IsClient, IsMomentToken, IsOptional, IsEdge, IsTimes, IsDirection, IsLimit, IsScan, IsDefault, IsChange, IsRest, command_word, IsSentence, IsSkipped, is_remark, blank_of, kind_word}
+use Rattle.lt_lang.specs.Parsing.{◌>>=◌, same, integer_of, word_value, literal_here, needed, maybe, count_of, moment_of, column_name, kind_of, needed_count, maybe_count, maybe_moment, needed_name, needed_kind, next_word, behind_next, after_word, literal_at, literals_at, edge_by, edge_after, edge_at, times_after, times_at, direction_after, direction_at, limit_after, limit_at, query_of, scan_at, default_by, default_at, column_of, append_at, widen_at, change_after, change_at, said, says, command_by, command_at, last_command, request_at, client_line, line_by, line_at, client_of}
+use Rattle.lt_lang.proofs.WordForms.{IsStart, same-only, count_of-only, count_of-start, moment_of-only, moment_of-start, column_name-only, column_name-start, kind_of-only, kind_of-start, client_of-only, client_of-start}
+use Rattle.lt_lang.proofs.Gaps.{skip_gap, skipped_next, next_is, front-split}
 use Rattle.lt_lang.proofs.Understood.{read_ok}
 use Rattle.lt_lang.proofs.Answered.{AreLits-length}
 use Rattle.lt_lang.proofs.Spoken.{unquoted, literal_at-only, literals_at-only}
@@ -499,12 +497,13 @@ pub sentence_line : (bytes client : List ℕ) (moment : Option ℕ) (command : C
 unfolding line_at
 sentence_line bytes client moment command is =
     let token = client ++ codes ":" in
-    let rest = is.front.0 in
-    let next = is.front.1 in
-    let named : client_of token ≡ Some client = client_of-only token client (record { spelled = refl; is = is.name }) in
+    let given : Front (token ∷ (is.are.moment_tokens ++ command_word command ∷ is.are.rest)) bytes is.rest = subst (λ ts. Front ts bytes is.rest) is.are.spelled is.front in
+    let rest = given.0 in
+    let next = given.1 in
+    let named : client_of token ≡ Some client = client_of-only token client (record { spelled = refl; is = is.are.name }) in
     let seen = next_is token bytes rest next (client_of-start token client named) in
-    let remark : is_remark (skipped bytes) ≡ false = ap is_remark (skipped_next token bytes rest next) ∙ no_remark client rest is.name in
-    let request = request_only is.moment_tokens is.tokens moment command rest is.rest is.when is.means is.front.2 is.ends in
+    let remark : is_remark (skipped bytes) ≡ false = ap is_remark (skipped_next token bytes rest next) ∙ no_remark client rest is.are.name in
+    let request = request_only is.are.moment_tokens is.are.rest moment command rest is.rest is.are.when is.are.means given.2 is.ends in
     ap (λ t. if t then lines.Skip else line_by (client_of (next_word bytes)) bytes (behind_next bytes)) remark
     ∙ ap (λ w. line_by (client_of w) bytes (behind_next bytes)) seen.0 ∙ ap (λ r. line_by r bytes (behind_next bytes)) named
     ∙ ap (λ l. client_line (length bytes) client (request_at l)) seen.1 ∙ ap (client_line (length bytes) client) request

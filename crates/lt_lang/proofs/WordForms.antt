@@ -1,10 +1,10 @@
 -- Words of each form: what is read is so spelled, what is so spelled is read, and none of them is empty or begins with a quote.
-use Rattle.std.proofs.Common.{◌≡◌, ℕ, ℤ, zero, suc, ◌+◌, ◌<◌, ◌≤◌, Bool, true, false, ◌&&◌, List, [], ◌∷◌, ◌++◌, length, take, drop, refl, sym, ◌∙◌, ap, subst, arith, one-add, Option, Some, None}
+use Rattle.std.proofs.Common.{◌≡◌, ℕ, ℤ, ◌+◌, ◌≤◌, Bool, true, false, ◌&&◌, List, [], ◌∷◌, ◌++◌, length, take, drop, refl, sym, ◌∙◌, ap, subst, arith, one-add, Option, Some, None}
 use Rattle.std.proofs.Math.Seq.{take-append_seam, drop-append_seam}
 use Rattle.std.proofs.lemmas.List.{append-nil, take-append-drop}
 use Rattle.std.proofs.lemmas.Bool.{eqb-true, leb-true, le-leb}
 use Rattle.std.proofs.lemmas.Option.{cond_some}
-use Rattle.std.specs.Prelude.{nat_eq, nat_le, not, if◌then◌else◌, codes}
+use Rattle.std.specs.Prelude.{nat_eq, nat_le, if◌then◌else◌, codes}
 use Rattle.std.specs.List.{list_all, prefix_len}
 use Rattle.std.specs.Cmp.{first_so, second_so}
 use Rattle.std.specs.Cmp.Lexicographic.{pointwise, bytes_decides}
@@ -12,7 +12,7 @@ use Rattle.lt_schema.specs.Names.{is_name, is_name_byte}
 use Rattle.lt_schema.specs.declared.kind.Kind.{Kind}
 use Rattle.lt_schema.specs.declared.kind.Kind.TheVariants.{Int32, Int64, Time, Text as TextKind, Blob as BlobKind}
 use Rattle.lt_lang.specs.Grammar.{IsCount, IsMoment, IsInteger}
-use Rattle.lt_lang.specs.Reading.{after, count_at, moment_at, integer_at, unsigned_at}
+use Rattle.lt_lang.specs.Reading.{after, count_at, moment_at, integer_at}
 use Rattle.lt_lang.specs.Tokens.{is_quoted}
 use Rattle.lt_lang.specs.Sentences.{IsClient, IsMomentToken, kind_word}
 use Rattle.lt_lang.specs.Parsing.{whole, count_of, integer_of, moment_behind, moment_of, name_by, client_of, same, kind_of, column_name}

@@ -1,6 +1,6 @@
 -- Reading a line token by token. A reader gives what it found and the bytes behind it, or how many bytes of the line are
 -- left from the first token on that can't stand in its place; none are left where the line ends too early.
-use Rattle.std.specs.Prelude.{◌≡◌, ⊤, ℕ, zero, suc, ◌-◌, ◌^◌, ℤ, Bool, true, false, ◌&&◌, ◌==◌, nat_eq, nat_le, nat_lt, List, [], ◌∷◌, ◌++◌, length, take, drop, Option, Some, None, Result, Ok, Err, if◌then◌else◌, codes}
+use Rattle.std.specs.Prelude.{◌≡◌, ⊤, ℕ, zero, suc, ◌-◌, ◌^◌, ℤ, Bool, true, false, ◌&&◌, ◌==◌, nat_eq, nat_le, nat_lt, List, [], ◌∷◌, length, take, drop, Option, Some, None, Result, Ok, Err, if◌then◌else◌, codes}
 use Rattle.std.specs.List.{prefix_len}
 use Rattle.std.specs.Option.{option_map}
 use Rattle.std.specs.Str.{is_utf8}
@@ -21,11 +21,10 @@ use Rattle.lt_lang.specs.declared.query.Edge.{Edge}
 use Rattle.lt_lang.specs.declared.query.Query.{Query}
 use Rattle.lt_lang.specs.declared.stop.Stop.{Stop}
 use Rattle.lt_lang.specs.declared.stop.Stop.TheVariants as stops
-use Rattle.lt_lang.specs.Reading as found
 use Rattle.lt_lang.specs.Reading.{after, count_at, moment_at, integer_at}
 use Rattle.lt_lang.specs.Tokens.{is_ended, is_quoted, skipped, word_of, behind}
 use Rattle.lt_lang.specs.Literals.{hex_pair, is_bare}
-use Rattle.lt_lang.specs.Sentences.{kind_word, blank_of, is_remark}
+use Rattle.lt_lang.specs.Sentences.{blank_of, is_remark}
 
 infixl 10 ◌>>=◌
 abbrev pub ◌>>=◌ : {A B : Type 0} → Result A ℕ → (A → Result B ℕ) → Result B ℕ

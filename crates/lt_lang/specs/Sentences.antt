@@ -1,5 +1,5 @@
 -- How a line is spelled, token by token: a client's name, a moment, and one command; or nothing but a remark.
-use Rattle.std.specs.Prelude.{◌≡◌, ◌⊎◌, ℕ, ◌+◌, ◌-◌, ◌^◌, ◌<◌, ◌≤◌, pos, Bool, true, false, ◌==◌, List, [], ◌∷◌, ◌++◌, length, Option, Some, None, if◌then◌else◌, codes, ⊤}
+use Rattle.std.specs.Prelude.{◌≡◌, ◌⊎◌, ℕ, ◌-◌, ◌^◌, ◌≤◌, pos, Bool, true, false, ◌==◌, List, [], ◌∷◌, ◌++◌, length, Option, Some, None, if◌then◌else◌, codes}
 use Rattle.std.specs.List.{list_all}
 use Rattle.lt_schema.specs.Names.{is_name, is_name_byte}
 use Rattle.lt_schema.specs.declared.kind.Kind.{Kind}
@@ -16,7 +16,7 @@ use Rattle.lt_lang.specs.declared.command.Line.TheVariants as lines
 use Rattle.lt_lang.specs.declared.query.Edge.{Edge}
 use Rattle.lt_lang.specs.declared.query.Query.{Query}
 use Rattle.lt_lang.specs.Grammar.{IsCount, IsMoment}
-use Rattle.lt_lang.specs.Tokens.{is_space, is_ended}
+use Rattle.lt_lang.specs.Tokens.{is_space, is_ended, skipped}
 use Rattle.lt_lang.specs.Literals.{IsLit, AreLits, IsToken}
 
 -- a token behind spaces; behind it nothing stands, or a space
@@ -146,16 +146,40 @@ command_word Upkeep = codes "upkeep"
 command_word (Alter change) = codes "alter"
 command_word Tablets = codes "tablets"
 
--- NAME: @MOMENT COMMAND, of which the moment may be left out; spaces may stand at both ends
-pub record IsSentence (bytes client : List ℕ) (moment : Option ℕ) (command : Command) : Type 0 where
+-- NAME: @MOMENT COMMAND, of which the moment may be left out
+pub record AreTokens (tokens : List (List ℕ)) (client : List ℕ) (moment : Option ℕ) (command : Command) : Type 0 where
   pub moment_tokens : List (List ℕ)
-  pub tokens : List (List ℕ)
-  pub rest : List ℕ
-  pub front : Front ((client ++ codes ":") ∷ (moment_tokens ++ command_word command ∷ tokens)) bytes rest
-  pub ends : list_all is_space rest ≡ true
+  pub rest : List (List ℕ)
+  pub spelled : tokens ≡ (client ++ codes ":") ∷ (moment_tokens ++ command_word command ∷ rest)
   pub name : IsClient client
   pub when : IsOptional IsMomentToken moment_tokens moment
-  pub means : IsRest tokens command
+  pub means : IsRest rest command
+
+-- these tokens, and spaces behind the last
+pub record IsSentence (bytes client : List ℕ) (moment : Option ℕ) (command : Command) : Type 0 where
+  pub tokens : List (List ℕ)
+  pub rest : List ℕ
+  pub front : Front tokens bytes rest
+  pub ends : list_all is_space rest ≡ true
+  pub are : AreTokens tokens client moment command
+
+-- some lawful line begins with these tokens
+pub record Begins (tokens : List (List ℕ)) : Type 0 where
+  pub more : List (List ℕ)
+  pub client : List ℕ
+  pub moment : Option ℕ
+  pub command : Command
+  pub are : AreTokens (tokens ++ more) client moment command
+
+-- The tokens before a place stand: some lawful line begins with them. The place is the next token's, or the line's end.
+-- The client is the one that the first token names, or ? where it names none.
+pub record IsBad (bytes client : List ℕ) (at : ℕ) : Type 0 where
+  pub tokens : List (List ℕ)
+  pub rest : List ℕ
+  pub front : Front tokens bytes rest
+  pub begins : Begins tokens
+  pub place : at ≡ length bytes - length (skipped rest)
+  pub named : ((tokens ≡ []) × (client ≡ codes "?")) ⊎ ((others : List (List ℕ)) × (tokens ≡ (client ++ codes ":") ∷ others))
 
 -- nothing, or a # first
 abbrev pub is_remark : List ℕ → Bool
@@ -170,8 +194,8 @@ pub record IsSkipped (bytes : List ℕ) : Type 0 where
   pub spaces : list_all is_space gap ≡ true
   pub is : is_remark remark ≡ true
 
--- The bytes spell the line. A bad line is one that nothing spells as anything else.
+-- The bytes spell the line. A bad line is one that nothing spells as anything else, and the tokens before its place stand.
 abbrev pub IsSpelled : List ℕ → Line → Type 0
 IsSpelled bytes lines.Skip = IsSkipped bytes
 IsSpelled bytes (lines.Command client moment command) = IsSentence bytes client moment command
-IsSpelled bytes (lines.Bad client at) = (IsSkipped bytes → ⊥) × ((other : List ℕ) (moment : Option ℕ) (command : Command) → IsSentence bytes other moment command → ⊥)
+IsSpelled bytes (lines.Bad client at) = IsBad bytes client at × (IsSkipped bytes → ⊥) × ((other : List ℕ) (moment : Option ℕ) (command : Command) → IsSentence bytes other moment command → ⊥)

@@ -1,5 +1,3 @@
-use Rattle.std.proofs.Common.{sym, ap, ◌∙◌}
-use Rattle.lt_schema.specs.Names.{is_name}
 use Rattle.lt_lang.proofs.NameBytes.{name_bytes, read_name}
 use Rattle.lt_lang.proofs.alters.append_at.Goals as goal
 

@@ -1,4 +1,4 @@
-use Rattle.std.proofs.Common.{◌≡◌, sym, ◌∙◌, arith}
+use Rattle.std.proofs.Common.{arith}
 use Rattle.lt_lang.proofs.Pieces.{bare_found, bare_all}
 use Rattle.lt_lang.proofs.texts.bare_len.Goals as goal
 

@@ -1,8 +1,6 @@
-use Rattle.std.proofs.Common.{◌≡◌, List, ℕ, sym, ap, ◌∙◌, Some, subst}
+use Rattle.std.proofs.Common.{◌≡◌, sym, ap, ◌∙◌, Some, subst}
 use Rattle.std.specs.Str.{IsUtf8}
-use Rattle.std.specs.Prelude.{IsOk}
 use Rattle.lt_lang.proofs.Utf8.{utf8_of-yes, utf8_of-no}
-use Rattle.lt_lang.specs.Parsing.{utf8_of}
 use Rattle.lt_lang.proofs.texts.label_of.Goals as goal
 
 pub returns-in-Ok : goal.returns-in-Ok

@@ -1,5 +1,5 @@
-use Rattle.std.proofs.Common.{◌≡◌, sym, ap, ◌∙◌, Some, None}
-use Rattle.lt_lang.specs.Parsing.{text_behind, quoted_at, text_by}
+use Rattle.std.proofs.Common.{sym, ap, ◌∙◌}
+use Rattle.lt_lang.specs.Parsing.{text_behind, text_by}
 use Rattle.lt_lang.proofs.Pieces.{bare_closed, bare_unclosed}
 use Rattle.lt_lang.proofs.texts.text_behind.Goals as goal
 
