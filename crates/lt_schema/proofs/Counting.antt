@@ -1,6 +1,6 @@
 -- What is left to look at, past the end of a row or of its columns.
-use Rattle.std.proofs.Common.{◌≡◌, ℕ, ◌+◌, ◌≤◌, List, [], ◌∷◌, length, drop, refl, sym, ◌∙◌, arith}
-use Rattle.std.specs.Prelude.{Option, None}
+use Rattle.std.proofs.Common.{◌≡◌, ℕ, ◌≤◌, List, [], ◌∷◌, length, drop, refl, ◌∙◌}
+use Rattle.std.specs.Prelude.{None}
 use Rattle.std.proofs.lemmas.List.{at_drop_all}
 use Rattle.lt_schema.specs.declared.value.Value.{Value}
 use Rattle.lt_schema.specs.Shapes.{ColumnShape}

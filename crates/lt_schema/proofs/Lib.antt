@@ -1,2 +1,5 @@
 pub mod Growing
 pub mod Counting
+mod Items
+mod Reading
+mod Digits

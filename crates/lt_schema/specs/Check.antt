@@ -1,6 +1,6 @@
 -- When a row passes a schema, and its key and timestamp.
-use Rattle.std.specs.Prelude.{ℕ, ◌+◌, ◌-◌, ◌^◌, min, ◌≡◌, Bool, true, false, List, [], ◌∷◌, length, take, drop, nat_lt, nat_eq, sum_by, Option, Some, None, option_and_then, slice_get, if◌then◌else◌}
-use Rattle.std.specs.Option.{option_map, option_map_or}
+use Rattle.std.specs.Prelude.{ℕ, ◌+◌, ◌-◌, ◌^◌, min, ◌≡◌, List, [], ◌∷◌, length, take, drop, nat_lt, nat_eq, sum_by, Option, Some, None, slice_get, if◌then◌else◌}
+use Rattle.std.specs.Option.{option_map_or}
 use Rattle.lt_schema.specs.declared.row.RowFault.{RowFault}
 use Rattle.lt_schema.specs.declared.row.RowFault.TheVariants.{Arity, WrongKind, KeyLong, BodyLong}
 use Rattle.lt_schema.specs.declared.value.Value.{Value}

@@ -5,3 +5,4 @@ pub mod Lawful
 pub mod Versions
 pub mod Check
 pub mod Orders
+pub mod FromJson

@@ -1,5 +1,7 @@
 ghost use Rattle.std.specs.Prelude.{◌≡◌};
 ghost use Rattle.lt_schema.specs.Lawful.{is_short};
+ghost use Rattle.std.specs.List.{list_all};
+ghost use Rattle.lt_schema.specs.Names.{is_letter, is_name_byte};
 
 use crate::{Kind, Value};
 use lt_rec::Label;
@@ -32,6 +34,8 @@ impl Column {
     ghost use Rattle.lt_schema.specs.Lawful.{has_lawful_default};
     ghost use Rattle.lt_schema.specs.declared.kind.Kind.TheVariants.{Int64};
 
+    /// The most bytes of a name.
+    pub const LONGEST_NAME: usize = 64;
     /// The most bytes of a default that is a text or bytes.
     pub const LONGEST_DEFAULT: usize = 1_024;
 
@@ -44,6 +48,18 @@ impl Column {
             name,
             kind,
             default,
+        }
+    }
+
+    /// Whether a column may have this name: 1 to 64 of `a` to `z`, `0` to `9` and `_`, a letter first. Takes no memory.
+    pub fn is_name(name: &[u8]) -> bool
+        ensures { result ≡ is_name name.now }
+    {
+        match name.split_first() {
+            None => false,
+            Some((first, others)) => {
+                is_letter(*first) && are_name_bytes(others) && others.len() < Column::LONGEST_NAME
+            }
         }
     }
 
@@ -81,7 +97,31 @@ impl Column {
     }
 }
 
-fn is_short(value: &Value) -> bool
+fn is_letter(byte: u8) -> bool
+    ensures { result ≡ is_letter byte }
+{
+    b'a' <= byte && byte <= b'z'
+}
+
+fn is_name_byte(byte: u8) -> bool
+    ensures { result ≡ is_name_byte byte }
+{
+    is_letter(byte) || (b'0' <= byte && byte <= b'9') || byte == b'_'
+}
+
+fn are_name_bytes(bytes: &[u8]) -> bool
+    ensures { result ≡ list_all is_name_byte bytes.now }
+{
+    for byte in bytes {
+        if !is_name_byte(*byte) {
+            return false;
+        }
+    }
+    true
+}
+
+/// Whether it has at most 1,024 bytes as a text or bytes.
+pub(crate) fn is_short(value: &Value) -> bool
     ensures { result ≡ is_short value.now }
 {
     match value {
@@ -145,7 +185,7 @@ impl Columns {
     }
 
     /// The allocator that the columns came from.
-    pub fn allocator(&self) -> Global {
+    pub(crate) fn allocator(&self) -> Global {
         *self.columns.allocator()
     }
 }

@@ -1,5 +1,6 @@
 ghost use Rattle.std.specs.Prelude.{◌≡◌};
 ghost use Rattle.lt_schema.specs.Values.{is_of_kind};
+ghost use Rattle.lt_schema.specs.Lawful.{is_time_kind};
 ghost use Rattle.lt_schema.specs.declared.value.Value.TheVariants.{Int};
 
 use crate::Value;
@@ -22,6 +23,16 @@ pub enum Kind {
 impl Kind {
     /// Times are below this one.
     pub const TIME_END: i64 = 1 << 62;
+
+    /// Whether it is that of times. Takes no memory.
+    pub fn is_time(self) -> bool
+        ensures exact { result ≡ is_time_kind self }
+    {
+        match self {
+            Kind::Time => true,
+            Kind::Int32 | Kind::Int64 | Kind::Text | Kind::Blob => false,
+        }
+    }
 
     /// Whether a value is of this kind: an integer within the kind's range, a text, or bytes. Takes no memory.
     pub fn has(self, value: &Value) -> bool

@@ -6,6 +6,8 @@ mod change;
 mod changing;
 mod checking;
 mod column;
+mod hex;
+mod json;
 mod kind;
 mod row;
 mod schema;
@@ -14,8 +16,12 @@ mod value;
 
 pub use change::{AlterError, Change};
 pub use column::{Column, Columns};
+pub use json::SchemaError;
 pub use kind::Kind;
 pub use row::{Row, RowFault, Rows};
 pub use schema::Schema;
 pub use schemas::Schemas;
 pub use value::{Value, key_cmp};
+
+#[cfg(test)]
+mod tests;

@@ -1,4 +1,4 @@
-use Rattle.std.proofs.Common.{◌≡◌, arith}
+use Rattle.std.proofs.Common.{arith}
 use Rattle.lt_schema.proofs.Counting.{len_under-all, len_under-short}
 use Rattle.lt_schema.proofs.checking.body_len_in_bytes.Goals as goal
 

@@ -1,8 +1,5 @@
-use Rattle.std.proofs.Common.{◌≡◌, ◌++◌, ◌∷◌, [], ℕ, List, subst, sym, ap, ◌∙◌, arith}
-use Rattle.std.specs.Prelude.{IsTrue}
+use Rattle.std.proofs.Common.{◌≡◌, ◌++◌, ◌∷◌, [], arith}
 use Rattle.std.proofs.lemmas.Grind.{common_steps}
-use Rattle.lt_schema.specs.Shapes.{ColumnShape}
-use Rattle.lt_schema.specs.Lawful.{is_schema}
 use Rattle.lt_schema.proofs.Growing.{is_schema-appended}
 use Rattle.lt_schema.proofs.schema.Schema.appended.Goals as goal
 

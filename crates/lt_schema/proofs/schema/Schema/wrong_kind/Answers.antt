@@ -1,4 +1,4 @@
-use Rattle.std.proofs.Common.{◌≡◌, sym, ◌∙◌, arith}
+use Rattle.std.proofs.Common.{sym, ◌∙◌, arith}
 use Rattle.lt_schema.proofs.Counting.{wrong_kind-short}
 use Rattle.lt_schema.proofs.schema.Schema.wrong_kind.Goals as goal
 
