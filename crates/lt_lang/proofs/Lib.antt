@@ -15,6 +15,7 @@ mod Gaps
 mod Understood
 mod Answered
 mod Spoken
+mod ScanParts
 mod Wanted
 mod Stopped
 mod Exactly
