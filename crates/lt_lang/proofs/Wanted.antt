@@ -13,7 +13,7 @@ use Rattle.lt_schema.specs.Shapes.{ColumnShape}
 use Rattle.lt_lang.specs.declared.command.Command.{Command}
 use Rattle.lt_lang.specs.declared.command.Command.TheVariants.{Insert, Scan, Latest, Flush, Upkeep, Alter, Tablets}
 use Rattle.lt_lang.specs.declared.command.Line.TheVariants as lines
-use Rattle.lt_lang.specs.Grammar.{IsCount}
+use Rattle.lt_lang.specs.Numbers.{IsCount}
 use Rattle.lt_lang.specs.Reading.{after, count_at}
 use Rattle.lt_lang.specs.Tokens.{is_space, skipped, word_of}
 use Rattle.lt_lang.specs.Sentences.{Next, Front, IsClient, IsMomentToken, IsOptional, IsDefault, IsChange, IsRest, command_word, IsSentence, IsSkipped, is_remark, blank_of, kind_word}
