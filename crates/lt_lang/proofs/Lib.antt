@@ -2,7 +2,6 @@ mod Cutting
 mod Digits
 mod Taken
 mod Spelled
-mod LineParts
 mod Quoted
 mod Utf8
 mod HexDigits
@@ -15,6 +14,7 @@ mod Gaps
 mod Understood
 mod Answered
 mod Spoken
+mod ScanParts
 mod Wanted
 mod Stopped
 pub mod Exactly

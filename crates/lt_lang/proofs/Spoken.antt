@@ -6,7 +6,7 @@ use Rattle.std.specs.Prelude.{nat_eq, if◌then◌else◌, codes}
 use Rattle.std.specs.Option.{option_map}
 use Rattle.lt_schema.specs.declared.value.Value.{Value}
 use Rattle.lt_schema.specs.declared.value.Value.TheVariants.{Int, Text, Blob}
-use Rattle.lt_lang.specs.Grammar.{IsInteger}
+use Rattle.lt_lang.specs.Numbers.{IsInteger}
 use Rattle.lt_lang.specs.Reading.{after, integer_at, unsigned_at, count_at}
 use Rattle.lt_lang.specs.Tokens.{is_ended, is_quoted}
 use Rattle.lt_lang.specs.Literals.{hex_pair, IsHex, is_bare, IsPiece, IsBody, IsText, IsBlob, IsLit, AreLits}

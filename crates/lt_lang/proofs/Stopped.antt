@@ -15,7 +15,7 @@ use Rattle.lt_lang.specs.declared.command.Command.TheVariants.{Scan, Alter, Tabl
 use Rattle.lt_lang.specs.declared.command.Line.TheVariants as lines
 use Rattle.lt_lang.specs.declared.query.Edge.{Edge}
 use Rattle.lt_lang.specs.declared.query.Query.{Query}
-use Rattle.lt_lang.specs.Grammar.{IsCount}
+use Rattle.lt_lang.specs.Numbers.{IsCount}
 use Rattle.lt_lang.specs.Tokens.{skipped}
 use Rattle.lt_lang.specs.Literals.{IsLit, AreLits}
 use Rattle.lt_lang.specs.Sentences.{Next, Front, IsClient, IsEdge, IsSomeEdge, IsTimes, IsSomeTimes, IsDirection, IsLimit, IsSomeLimit, IsScan, IsAppend, IsChange, IsRest, command_word, AreTokens, Begins, IsBad, is_remark, blank_of}

@@ -11,7 +11,7 @@ use Rattle.lt_schema.specs.Names.{is_name}
 use Rattle.lt_schema.specs.declared.kind.Kind.{Kind}
 use Rattle.lt_schema.specs.declared.value.Value.{Value}
 use Rattle.lt_schema.specs.declared.value.Value.TheVariants.{Int, Text, Blob}
-use Rattle.lt_lang.specs.Grammar.{IsCount}
+use Rattle.lt_lang.specs.Numbers.{IsCount}
 use Rattle.lt_lang.specs.Reading.{after, count_at, integer_at, unsigned_at}
 use Rattle.lt_lang.specs.Tokens.{is_space, is_solid, is_ended, skipped, word_of, behind}
 use Rattle.lt_lang.specs.Literals.{hex_pair, IsHex, IsBody, IsText, IsBlob, IsLit, AreLits, IsToken}

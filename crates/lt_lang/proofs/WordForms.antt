@@ -11,7 +11,7 @@ use Rattle.std.specs.Cmp.Lexicographic.{pointwise, bytes_decides}
 use Rattle.lt_schema.specs.Names.{is_name, is_name_byte}
 use Rattle.lt_schema.specs.declared.kind.Kind.{Kind}
 use Rattle.lt_schema.specs.declared.kind.Kind.TheVariants.{Int32, Int64, Time, Text as TextKind, Blob as BlobKind}
-use Rattle.lt_lang.specs.Grammar.{IsCount, IsMoment, IsInteger}
+use Rattle.lt_lang.specs.Numbers.{IsCount, IsMoment, IsInteger}
 use Rattle.lt_lang.specs.Reading.{after, count_at, moment_at, integer_at}
 use Rattle.lt_lang.specs.Tokens.{is_quoted}
 use Rattle.lt_lang.specs.Sentences.{IsClient, IsMomentToken, kind_word}

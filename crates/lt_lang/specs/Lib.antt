@@ -1,5 +1,5 @@
 pub mod Lines
-pub mod Grammar
+pub mod Numbers
 pub mod Reading
 pub mod Table
 pub mod Texts

@@ -3,7 +3,7 @@ use Rattle.std.specs.Prelude.{◌≡◌, ◌⊎◌, ℕ, ◌+◌, ◌-◌, ◌*�
 use Rattle.std.specs.Str.{IsUtf8}
 use Rattle.lt_schema.specs.declared.value.Value.{Value}
 use Rattle.lt_schema.specs.declared.value.Value.TheVariants.{Int, Text, Blob}
-use Rattle.lt_lang.specs.Grammar.{IsInteger}
+use Rattle.lt_lang.specs.Numbers.{IsInteger}
 use Rattle.lt_lang.specs.Tokens.{IsRun}
 
 -- what a hexadecimal digit stands for, in either case

@@ -15,7 +15,7 @@ use Rattle.lt_lang.specs.declared.command.Line.{Line}
 use Rattle.lt_lang.specs.declared.command.Line.TheVariants as lines
 use Rattle.lt_lang.specs.declared.query.Edge.{Edge}
 use Rattle.lt_lang.specs.declared.query.Query.{Query}
-use Rattle.lt_lang.specs.Grammar.{IsCount, IsMoment}
+use Rattle.lt_lang.specs.Numbers.{IsCount, IsMoment}
 use Rattle.lt_lang.specs.Tokens.{is_space, is_ended, skipped}
 use Rattle.lt_lang.specs.Literals.{IsLit, AreLits, IsToken}
 

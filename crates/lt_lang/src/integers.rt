@@ -1,9 +1,9 @@
 //! Integers at the front of a line: an optional -, and 1 to 19 digits.
 ghost use Rattle.std.specs.Prelude.{◌≡◌, ◌^◌, ◌≤◌, neg_ℤ, pos, SomeIff};
 ghost use Rattle.lt_lang.specs.Parsing.{count_of, integer_of, moment_of};
-ghost use Rattle.lt_lang.specs.Reading.{Finds, count_at, device_at, digit_at, digits_at, integer_at, moment_at, negated_at, time_at, unsigned_at};
+ghost use Rattle.lt_lang.specs.Reading.{Finds, count_at, digit_at, digits_at, integer_at, moment_at, negated_at, unsigned_at};
 
-use crate::parsing::after;
+use crate::tokens::after;
 
 const MOMENTS: u64 = 1 << 62;
 
@@ -40,7 +40,7 @@ fn count_at(bytes: &[u8]) -> Option<(u64, &[u8])>
 }
 
 #[tactic(auto, unfolding(crate::specs::Reading::moment_at))]
-pub fn moment_at(bytes: &[u8]) -> Option<(u64, &[u8])>
+fn moment_at(bytes: &[u8]) -> Option<(u64, &[u8])>
     ensures { Finds (λ x. (x.0, x.1.now)) result (moment_at bytes.now) }
 {
     let (moment, rest) = count_at(bytes)?;
@@ -76,36 +76,12 @@ fn unsigned_at(bytes: &[u8]) -> Option<(i64, &[u8])>
 }
 
 #[tactic(auto, unfolding(crate::specs::Reading::integer_at))]
-pub fn integer_at(bytes: &[u8]) -> Option<(i64, &[u8])>
+fn integer_at(bytes: &[u8]) -> Option<(i64, &[u8])>
     ensures { Finds (λ x. (x.0, x.1.now)) result (integer_at bytes.now) }
 {
     match bytes.split_first() {
         Some((b'-', digits)) => negated_at(digits),
         _ => unsigned_at(bytes),
-    }
-}
-
-#[tactic(auto, unfolding(crate::specs::Reading::device_at))]
-pub fn device_at(bytes: &[u8]) -> Option<(i64, &[u8])>
-    ensures { Finds (λ x. (x.0, x.1.now)) result (device_at bytes.now) }
-{
-    let (device, rest) = integer_at(bytes)?;
-    if device >= i32::MIN as i64 && device <= i32::MAX as i64 {
-        Some((device, rest))
-    } else {
-        None
-    }
-}
-
-#[tactic(auto, unfolding(crate::specs::Reading::time_at))]
-pub fn time_at(bytes: &[u8]) -> Option<(i64, &[u8])>
-    ensures { Finds (λ x. (x.0, x.1.now)) result (time_at bytes.now) }
-{
-    let (time, rest) = integer_at(bytes)?;
-    if time >= 0 && time < MOMENTS as i64 {
-        Some((time, rest))
-    } else {
-        None
     }
 }
 

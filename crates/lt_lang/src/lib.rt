@@ -10,7 +10,6 @@ mod laws;
 mod lines;
 mod literals;
 mod names;
-mod parsing;
 mod printing;
 mod query;
 mod reply;
@@ -23,9 +22,8 @@ mod upkeep;
 mod values;
 
 pub use command::{Command, Line};
-pub use laws::{lawful_rows, one_line, one_meaning};
+pub use laws::one_meaning;
 pub use lines::next_line;
-pub use parsing::parse_line;
 pub use printing::{put_client, put_end, put_reply, reply_text};
 pub use query::{BoundFault, Edge, Query};
 pub use reply::Reply;

@@ -6,9 +6,8 @@ ghost use Rattle.lt_lang.specs.Tokens.{behind, word_of};
 
 use crate::hex::hex_of;
 use crate::integers::integer_of;
-use crate::parsing::after;
 use crate::texts::text_behind;
-use crate::tokens::{skip_spaces, split_word};
+use crate::tokens::{after, skip_spaces, split_word};
 use lt_rec::NoMemory;
 use lt_schema::{Row, Value};
 use std::alloc::Global;

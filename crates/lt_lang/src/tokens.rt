@@ -1,7 +1,7 @@
 //! Tokens: runs of bytes that aren't spaces, with spaces between them.
 ghost use Rattle.std.specs.Prelude.{◌≡◌, ◌≤◌, length};
 ghost use Rattle.std.specs.List.{prefix_len};
-ghost use Rattle.lt_lang.specs.Reading.{Finds};
+ghost use Rattle.lt_lang.specs.Reading.{Finds, after};
 ghost use Rattle.lt_lang.specs.Tokens.{behind, is_ended, is_solid, is_space, skipped, word_of};
 ghost use Rattle.lt_lang.specs.Parsing.{after_word, behind_next, maybe_count, maybe_moment, needed_count, next_word};
 ghost use Rattle.lt_lang.specs.Parsing.{Gives};
@@ -57,6 +57,14 @@ pub fn is_ended(bytes: &[u8]) -> bool
         [] => true,
         [first, ..] => *first == b' ',
     }
+}
+
+/// What is left behind these bytes, where they come first.
+#[tactic(auto, unfolding(crate::specs::Reading::after))]
+pub fn after<'a>(bytes: &'a [u8], words: &[u8]) -> Option<&'a [u8]>
+    ensures { Finds (λ x. x.now) result (after words.now bytes.now) }
+{
+    bytes.strip_prefix(words)
 }
 
 /// What is behind the next token, where it is this word.

@@ -1,7 +1,7 @@
 use Rattle.std.proofs.Common.{arith}
 use Rattle.std.proofs.lemmas.Grind.{common_steps}
 use Rattle.lt_lang.proofs.Taken.{after-yes, after-no}
-use Rattle.lt_lang.proofs.parsing.after.Goals as goal
+use Rattle.lt_lang.proofs.tokens.after.Goals as goal
 
 pub returns : goal.returns
 returns c =
