@@ -1,6 +1,6 @@
 pub mod Asked
-pub mod Footer
-pub mod Index
+pub mod FooterText
+pub mod IndexText
 pub mod Own
 pub mod Sums
 pub mod Blocks

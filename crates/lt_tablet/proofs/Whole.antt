@@ -18,8 +18,8 @@ use Rattle.lt_block.proofs.Blocks.{all_len}
 use Rattle.lt_tablet.specs.Spelling.{Entry, Totals, Parts, IsTablet, header, mark, told, numbers, entries_of, key_spelled, entry_spelled, end_of, blocks_spelled, index_spelled, hashes_from, filter_of, footer_spelled, parts_of, totals_of, file_of}
 use Rattle.lt_tablet.specs.Reading.{holds, footer_place, footer_at, header_at, entries_at, index_at, blocks_at, totals_at, filter_at, same_at, between, file_at}
 use Rattle.lt_tablet.proofs.Asked.{done, holds_ok, holds_again, same_bytes, bytes_same, same_at_ok, same_at_again, Short}
-use Rattle.lt_tablet.proofs.Footer.{Lie, FooterFound, footer_takes, footer_again}
-use Rattle.lt_tablet.proofs.Index.{IsEntries, EntriesFound, AreSmall, entries_take, entries_again, ends}
+use Rattle.lt_tablet.proofs.FooterText.{Lie, FooterFound, footer_takes, footer_again}
+use Rattle.lt_tablet.proofs.IndexText.{IsEntries, EntriesFound, AreSmall, entries_take, entries_again, ends}
 use Rattle.lt_tablet.proofs.Blocks.{BlocksFound, blocks_take, blocks_again, length_entries, end_of_blocks, block_len, entries_are, entries_small}
 use Rattle.lt_tablet.proofs.Sums.{Within, all_lawful, all_of, all_within, greatest_below, least_below}
 

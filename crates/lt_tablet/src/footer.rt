@@ -1,5 +1,5 @@
 //! The ends of a file: its length, its footer and its header.
-ghost use Rattle.std.specs.Prelude.{◌≡◌, ◌+◌, ◌<◌, ◌≤◌, ◌^◌, length, IfOk};
+ghost use Rattle.std.specs.Prelude.{◌≡◌, ◌+◌, ◌*◌, ◌<◌, ◌≤◌, ◌^◌, length, IfOk};
 ghost use Rattle.lt_block.specs.Reading.{Reads};
 ghost use Rattle.lt_tablet.specs.Spelling.{told};
 ghost use Rattle.lt_tablet.specs.Reading.{holds, footer_place, numbers_at, footer_at, header_at, totals_at, same_at, filter_at};
@@ -9,8 +9,11 @@ use lt_block::{Fault, u64_at};
 use std::marker::Model;
 
 pub const HEADER: [u8; 8] = *b"LTTABLE1";
+
 pub const MARK: [u8; 8] = *b"LTTABEND";
+
 pub const FOOTER_LEN: u64 = 88;
+
 const SHORTEST_FILE: u64 = 170;
 
 /// Where the parts of a file lie, in bytes from its start.
@@ -114,11 +117,7 @@ fn check_same(at: u64, bytes: &[u8], wanted: &[u8]) -> Result<(), Fault>
     requires { at + length bytes.now < 2 ^ 64 }
     ensures exact { Reads (λ x. x) result (same_at at bytes.now wanted.now) }
 {
-    let same = bytes
-        .iter()
-        .zip(wanted)
-        .take_while(|(a, b)| a == b)
-        .count();
+    let same = bytes.iter().zip(wanted).take_while(|(a, b)| a == b).count();
     holds(
         same == bytes.len() && same == wanted.len(),
         at + same as u64,

@@ -1,4 +1,5 @@
 ghost use Rattle.std.specs.Prelude.{◌≡◌, true};
+ghost use Rattle.std.specs.Arc.{arc_value};
 ghost use Rattle.lt_tablet.specs.Spelling.{totals_of};
 ghost use Rattle.lt_tablet.specs.Loaded.{Loaded, listed_totals, records_in};
 ghost use Rattle.lt_tablet.specs.Writing.{IsListing};
@@ -18,27 +19,28 @@ pub struct Fresh<V: Device> {
 
 impl<V: Device> Model for Fresh<V> {
     ghost use Rattle.std.specs.Prelude.{◌≡◌};
+    ghost use Rattle.std.specs.Arc.{arc_value};
     ghost use Rattle.lt_tablet.specs.Loaded.{Loaded};
     ghost use Rattle.lt_tablet.specs.Writing.{IsListing};
 
     ghost Value = { Loaded };
 
-    ghost view = { λ f. f.tablet };
+    ghost view = { λ f. arc_value f.tablet };
 
-    ghost invariant = { λ f. (f.listed ≡ f.tablet.listed) × IsListing f.listed f.listed.file f.listed.period };
+    ghost invariant = { λ f. (f.listed ≡ (arc_value f.tablet).listed) × IsListing f.listed f.listed.file f.listed.period };
 }
 
 impl<V: Device> Fresh<V> {
     pub(crate) fn new(tablet: Arc<Tablet<V>>, listed: Listed) -> Fresh<V>
-        requires same { listed ≡ tablet.listed }
+        requires same { listed ≡ (arc_value tablet).listed }
         requires listing { IsListing listed listed.file listed.period }
-        ensures { result ≡ tablet }
+        ensures { result ≡ arc_value tablet }
     {
         Fresh { tablet, listed }
     }
 
     pub fn tablet(&self) -> &Arc<Tablet<V>>
-        ensures { result.now ≡ self.now }
+        ensures { arc_value result.now ≡ self.now }
     {
         &self.tablet
     }
@@ -53,7 +55,7 @@ impl<V: Device> Fresh<V> {
 
     /// The tablet, and its listing.
     pub fn into_parts(self) -> (Arc<Tablet<V>>, Listed)
-        ensures tablet { result.0 ≡ self }
+        ensures tablet { arc_value result.0 ≡ self }
         ensures listed { result.1 ≡ self.listed }
     {
         let Fresh { tablet, listed } = self;

@@ -29,6 +29,7 @@ impl Model for IndexEntry {
 }
 
 const SHORTEST_BLOCK: u32 = 32;
+
 const SHORTEST_ENTRY: usize = 40;
 
 pub fn is_key_length(number: u32) -> bool

@@ -53,8 +53,14 @@ impl Survey {
     }
 
     /// One record more, whose key and timestamp and number these are; `before` is the key of the one before it.
-    pub fn add(&mut self, before: Option<&[u8]>, key: &[u8], ts: u64, seq: u64) -> Result<(), NoMemory>
-        ensures { OnOk result ((recs : List Record) (r : Record) → r.key ≡ key.now → r.ts ≡ ts → r.seq ≡ seq → option_copied before ≡ last_of recs → self.old ≡ found_in recs → self.new ≡ found_in (recs ++ r ∷ [])) }
+    pub fn add(
+        &mut self,
+        before: Option<&[u8]>,
+        key: &[u8],
+        ts: u64,
+        seq: u64,
+    ) -> Result<(), NoMemory>
+        ensures { OnOk result ((recs : List Record) (r : Record) → r.key ≡ key.now → r.ts ≡ ts → r.seq ≡ seq → option_copied before.entry ≡ last_of recs → self.old ≡ found_in recs → self.new ≡ found_in (recs ++ r ∷ [])) }
     {
         let stem = stem_of(key);
         if before.map(stem_of) != Some(stem) {
@@ -94,7 +100,7 @@ pub fn survey_block(
     survey: &mut Survey,
 ) -> Result<(), BlockError>
     requires { length bytes.now ≤ 65536 }
-    ensures found { OnOk result ((recs : List Record) → option_copied before ≡ last_of recs → survey.old ≡ found_in recs → (own : List Record) × (own_block_at totals.now entry.now bytes.now ≡ Ok own) × (survey.new ≡ found_in (recs ++ own))) }
+    ensures found { OnOk result ((recs : List Record) → option_copied before.entry ≡ last_of recs → survey.old ≡ found_in recs → (own : List Record) × (own_block_at totals.now entry.now bytes.now ≡ Ok own) × (survey.new ≡ found_in (recs ++ own))) }
     ensures fault { IfErr result (λ why. Fails why (own_block_at totals.now entry.now bytes.now)) }
 {
     let (count, behind) = u32_at(0, bytes)?;

@@ -106,12 +106,19 @@ impl<V: Device> Tablet<V> {
         let entry = &self.index[i as usize];
         let bytes = dev.read_at(&self.reader, entry.offset, u64::from(entry.len))?;
         let file = self.listed.file;
-        check_block(&Totals::listed(&self.listed), entry, bytes.as_slice())
-            .map_err(|fault| ReadError::Bad { file, at: entry.offset + fault.at })?;
+        check_block(&Totals::listed(&self.listed), entry, bytes.as_slice()).map_err(
+            |fault| ReadError::Bad {
+                file,
+                at: entry.offset + fault.at,
+            },
+        )?;
         match Block::read(alloc, bytes) {
             Ok(block) => Ok(block),
             Err(BlockError::NoMemory) => Err(ReadError::NoMemory),
-            Err(BlockError::Bad { at }) => Err(ReadError::Bad { file, at: entry.offset + at }),
+            Err(BlockError::Bad { at }) => Err(ReadError::Bad {
+                file,
+                at: entry.offset + at,
+            }),
         }
     }
 

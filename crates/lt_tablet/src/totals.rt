@@ -44,11 +44,9 @@ impl Totals {
 
     /// The six numbers that a footer tells of them: these five, and that nothing is packed.
     pub fn told(&self) -> [u64; 6]
-        ensures { result.items ≡ told self.now }
+        ensures { result ≡ told self.now }
     {
-        [
-            self.rows, self.low, self.high, self.first, self.last, 0,
-        ]
+        [self.rows, self.low, self.high, self.first, self.last, 0]
     }
 
     /// Of no records.

@@ -55,7 +55,12 @@ impl<V: Device> Model for TabletWriter<V> {
 
 impl<V: Device> TabletWriter<V> {
     /// Begins a file under a lent number, for records whose timestamps lie in the period.
-    pub fn new(alloc: Global, dev: &mut V, lent: V::Lent, period: Period) -> Result<TabletWriter<V>, WriteError>
+    pub fn new(
+        alloc: Global,
+        dev: &mut V,
+        lent: V::Lent,
+        period: Period,
+    ) -> Result<TabletWriter<V>, WriteError>
         ensures number { IfOk result (λ w. w.number ≡ V.lent_number lent) }
         ensures period { IfOk result (λ w. w.period ≡ period) }
         ensures nothing { IfOk result (λ w. Wrote V.honest w []) }
@@ -99,8 +104,12 @@ impl<V: Device> TabletWriter<V> {
         if self.block.count() == 1 {
             copy_to(&mut self.first, rec.key())?;
         }
-        let before = if self.last.is_empty() { None } else { Some(self.last.as_slice()) };
-        self.survey.add(before, rec.key(), rec.ts(), rec.seq())?;
+        self.survey.add(
+            key_before(self.last.as_slice()),
+            rec.key(),
+            rec.ts(),
+            rec.seq(),
+        )?;
         copy_to(&mut self.last, rec.key())?;
         Ok(())
     }
@@ -113,7 +122,13 @@ impl<V: Device> TabletWriter<V> {
         let first = Octets::from_slice(self.alloc, self.first.as_slice())?;
         let last = Octets::from_slice(self.alloc, self.last.as_slice())?;
         let len = bytes.len() as u32;
-        self.index.push(IndexEntry { offset: self.offset, len, count, first, last })?;
+        self.index.push(IndexEntry {
+            offset: self.offset,
+            len,
+            count,
+            first,
+            last,
+        })?;
         self.offset = self.offset.checked_add(u64::from(len)).ok_or(NoMemory)?;
         dev.append(&mut self.pen, bytes.as_slice())?;
         Ok(())
@@ -134,33 +149,62 @@ impl<V: Device> TabletWriter<V> {
         dev.append(&mut self.pen, index_bytes.as_slice())?;
         dev.append(&mut self.pen, filter.as_slice())?;
         dev.append(&mut self.pen, foot.as_slice())?;
-        self.seal(dev, filter, &parts)
+        let listed = self.listing(&parts);
+        self.seal(dev, listed, filter)
     }
 
     fn parts(&self, index_len: u64, filter_len: u64) -> Result<Parts, NoMemory> {
         let index = self.offset;
         let filter = index.checked_add(index_len).ok_or(NoMemory)?;
-        let _end = filter.checked_add(filter_len).and_then(|foot| foot.checked_add(FOOTER_LEN)).ok_or(NoMemory)?;
-        Ok(Parts { index, blocks: self.index.len() as u64, filter, filter_len })
+        let _end = filter
+            .checked_add(filter_len)
+            .and_then(|foot| foot.checked_add(FOOTER_LEN))
+            .ok_or(NoMemory)?;
+        Ok(Parts {
+            index,
+            blocks: self.index.len() as u64,
+            filter,
+            filter_len,
+        })
     }
 
-    fn seal(self, dev: &mut V, filter: Filter, parts: &Parts) -> Result<Fresh<V>, WriteError> {
-        let TabletWriter { pen, file, period, offset: _, block: _, first: _, last: _, index, survey, alloc } = self;
-        let totals = *survey.totals();
-        let listed = Listed {
-            file,
+    fn listing(&self, parts: &Parts) -> Listed {
+        let totals = self.survey.totals();
+        Listed {
+            file: self.file,
             rows: totals.rows,
             bytes: parts.filter + parts.filter_len + FOOTER_LEN,
             low: totals.low,
             high: totals.high,
-            period,
+            period: self.period,
             first: totals.first,
             last: totals.last,
-        };
+        }
+    }
+
+    fn seal(self, dev: &mut V, listed: Listed, filter: Filter) -> Result<Fresh<V>, WriteError> {
+        let TabletWriter {
+            pen,
+            file: _,
+            period: _,
+            offset: _,
+            block: _,
+            first: _,
+            last: _,
+            index,
+            survey: _,
+            alloc,
+        } = self;
         let reader = dev.seal(pen)?;
-        let tablet = Arc::new(alloc, Tablet::from_parts(reader, listed, index, filter))?;
+        let tablet = Tablet::from_parts(reader, listed, index, filter);
+        let tablet = Arc::new(alloc, tablet)?;
         Ok(Fresh::new(tablet, listed))
     }
+}
+
+/// The empty key stands for none.
+fn key_before(last: &[u8]) -> Option<&[u8]> {
+    if last.is_empty() { None } else { Some(last) }
 }
 
 fn copy_to(held: &mut Vec<u8>, key: &[u8]) -> Result<(), NoMemory> {

@@ -11,7 +11,7 @@ use Rattle.lt_block.proofs.Fields.{IsBytes, bind_ok, ok_is, Takes, Takes-then, w
 use Rattle.lt_tablet.specs.Spelling.{Entry, key_spelled, entry_spelled, Follow, end_of}
 use Rattle.lt_tablet.specs.Reading.{asked, key_at, is_len, entry_at, entry_len, entries_at}
 use Rattle.lt_tablet.proofs.Asked.{asked_ok, asked_again}
-use Rattle.lt_tablet.proofs.Footer.{asked_takes, number_asked}
+use Rattle.lt_tablet.proofs.FooterText.{asked_takes, number_asked}
 
 -- ---- a key
 
