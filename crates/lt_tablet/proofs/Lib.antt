@@ -5,3 +5,7 @@ pub mod Own
 pub mod Sums
 pub mod Blocks
 pub mod Whole
+pub mod Expected
+pub mod Loops
+pub mod Load
+pub mod Stems

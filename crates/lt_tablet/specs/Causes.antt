@@ -2,6 +2,7 @@
 use Rattle.std.specs.Prelude.{◌≡◌, ℕ, Result, Ok, Err}
 use Rattle.lt_io.specs.declared.device_error.DeviceError.{DeviceError}
 use Rattle.lt_io.specs.declared.device_error.DeviceError.TheVariants.{Failed, NoMemory}
+use Rattle.lt_block.specs.declared.fault.Fault.{Fault}
 use Rattle.lt_tablet.specs.declared.errors.ReadError.{ReadError}
 use Rattle.lt_tablet.specs.declared.errors.ReadError.TheVariants as read_errors
 use Rattle.lt_tablet.specs.declared.errors.WriteError.{WriteError}
@@ -28,9 +29,18 @@ IsOfFile number (read_errors.Bad file at) = file ≡ number
 IsOfFile number read_errors.Fault = Unit {0}
 IsOfFile number read_errors.NoMemory = Unit {0}
 
+-- the fault of a rule, as an answer
+abbrev pub named : {A : Type 0} → ℕ → Result A Fault → Result A ReadError
+named file (Ok x) = Ok x
+named file (Err fault) = Err (read_errors.Bad file fault.at)
+
+-- what a refusal tells of reading: the offset is that of the first fault
+abbrev pub Refuses : {Y : Type 0} → ReadError → Result Y ℕ → Type 0
+Refuses (read_errors.Bad file at) read = read ≡ Err at
+Refuses read_errors.Fault read = Unit {0}
+Refuses read_errors.NoMemory read = Unit {0}
+
 -- what a call returned, seen by `view`, is what reading gives, unless the device failed or memory ran out
 abbrev pub Loads : {X Y : Type 0} → (X → Y) → Result X ReadError → Result Y ℕ → Type 0
 Loads view (Ok x) read = read ≡ Ok (view x)
-Loads view (Err (read_errors.Bad file at)) read = read ≡ Err at
-Loads view (Err read_errors.Fault) read = Unit {0}
-Loads view (Err read_errors.NoMemory) read = Unit {0}
+Loads view (Err why) read = Refuses why read

@@ -5,7 +5,8 @@ use Rattle.lt_rec.specs.declared.raw_box.RawBox.{RawBox}
 use Rattle.lt_rec.specs.Boxes.{meets_lo, meets_hi}
 use Rattle.lt_rec.specs.Record.{Record}
 use Rattle.lt_rec.specs.Records.{joined}
-use Rattle.lt_tablet.specs.Spelling.{Entry, Totals, Follow, end_of, entries_of, filter_of}
+use Rattle.lt_tablet.specs.Spelling.{Entry, Totals, IsTablet, end_of, entries_of, filter_of, totals_of, file_of}
+use Rattle.lt_tablet.specs.Entries.{IsEntries}
 use Rattle.lt_tablet.specs.Reading.{file_at}
 
 pub record Loaded : Type 0 where
@@ -32,6 +33,9 @@ records_in t = joined (blocks_in t)
 -- its file is one, and its index and its filter are those of the file
 pub record IsTold (t : Loaded) : Type 0 where
   pub read : file_at (listed_totals t.listed) t.listed.bytes t.bytes ≡ Ok (blocks_in t)
+  pub tablet : IsTablet (blocks_in t)
+  pub spelled : t.bytes ≡ file_of (blocks_in t)
+  pub totals : totals_of (joined (blocks_in t)) ≡ listed_totals t.listed
   pub index_is : t.index ≡ entries_of 8 (blocks_in t)
   pub filter_is : t.filter ≡ filter_of (records_in t)
 
@@ -41,7 +45,7 @@ pub record IsLoaded (told : Bool) (number size : ℕ) (t : Loaded) : Type 0 wher
   pub number_is : number ≡ t.listed.file
   pub size_is : size ≡ t.listed.bytes
   pub some : 0 < length t.index
-  pub follow : Follow 8 [] t.index
+  pub entries : IsEntries (end_of 8 t.index) 8 [] t.index
   pub within : end_of 8 t.index ≤ size
   pub file : told ≡ true → IsTold t
 

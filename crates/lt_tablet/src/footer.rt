@@ -2,6 +2,7 @@
 ghost use Rattle.std.specs.Prelude.{◌≡◌, ◌+◌, ◌*◌, ◌<◌, ◌≤◌, ◌^◌, length, IfOk};
 ghost use Rattle.lt_block.specs.Reading.{Reads};
 ghost use Rattle.lt_tablet.specs.Spelling.{told};
+ghost use Rattle.lt_tablet.specs.Phases.{Lie};
 ghost use Rattle.lt_tablet.specs.Reading.{holds, footer_place, numbers_at, footer_at, header_at, totals_at, same_at, filter_at};
 
 use crate::totals::Totals;
@@ -72,8 +73,7 @@ fn numbers_of<'a>(wanted: &[u64], at: u64, bytes: &'a [u8]) -> Result<&'a [u8], 
 pub fn footer_of(totals: &Totals, foot: u64, bytes: &[u8]) -> Result<Parts, Fault>
     requires { foot + 88 < 2 ^ 64 }
     ensures exact { Reads (λ parts. parts) result (footer_at totals.now foot bytes.now) }
-    ensures index { IfOk result (λ parts. parts.index < parts.filter) }
-    ensures filter { IfOk result (λ parts. parts.filter + parts.filter_len ≡ foot) }
+    ensures lie { IfOk result (λ parts. Lie foot parts) }
 {
     let (index, rest) = u64_at(foot, bytes)?;
     holds(8 < index && index <= foot, foot)?;
@@ -117,11 +117,11 @@ fn check_same(at: u64, bytes: &[u8], wanted: &[u8]) -> Result<(), Fault>
     requires { at + length bytes.now < 2 ^ 64 }
     ensures exact { Reads (λ x. x) result (same_at at bytes.now wanted.now) }
 {
-    let same = bytes.iter().zip(wanted).take_while(|(a, b)| a == b).count();
-    holds(
-        same == bytes.len() && same == wanted.len(),
-        at + same as u64,
-    )
+    let common = bytes.len().min(wanted.len());
+    for i in 0..common {
+        holds(bytes[i] == wanted[i], at + i as u64)?;
+    }
+    holds(bytes.len() == wanted.len(), at + common as u64)
 }
 
 /// The bytes of the filter are the defined ones.

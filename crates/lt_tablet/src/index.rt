@@ -1,5 +1,6 @@
 //! The index of a file: where each block lies, how many records it has, and its first and last keys.
 ghost use Rattle.std.specs.Prelude.{◌≡◌, ◌+◌, ◌<◌, ◌≤◌, ◌^◌, [], length, nat_lt, if◌then◌else◌, Some, None, IfOk};
+ghost use Rattle.lt_tablet.specs.Entries.{IsEntries};
 ghost use Rattle.lt_block.specs.Reading.{Reads, Gives, is_key_len};
 ghost use Rattle.lt_tablet.specs.Reading.{is_len, key_at, entry_at, entries_at, index_at};
 
@@ -88,13 +89,13 @@ impl<'a> EntryView<'a> {
             last: Octets::from_slice(alloc, self.last)?,
         })
     }
+}
 
-    /// Where its block ends; `None` where that is no offset.
-    fn end(&self) -> Option<u64>
-        ensures { result ≡ (if nat_lt (self.now.offset + self.now.len) (2 ^ 64) then Some (self.now.offset + self.now.len) else None) }
-    {
-        self.offset.checked_add(u64::from(self.len))
-    }
+/// Where a block ends; `None` where that is no offset.
+fn end_of(start: u64, len: u32) -> Option<u64>
+    ensures { result ≡ (if nat_lt (start + len) (2 ^ 64) then Some (start + len) else None) }
+{
+    start.checked_add(u64::from(len))
 }
 
 /// The entry that the bytes begin with, at an offset in the file: so many are left behind it, its block begins at `start`,
@@ -135,27 +136,31 @@ fn entry_of<'a>(
     ))
 }
 
-/// All entries, and what is left behind them.
+/// So many entries, which begin at an offset in the file, and what is left behind them.
 fn entries_of<'a>(
     alloc: Global,
-    parts: &Parts,
+    index: u64,
+    count: u64,
     bytes: &'a [u8],
 ) -> Result<(Vec<IndexEntry>, &'a [u8]), BlockError>
-    requires { parts.now.index + length bytes.now < 2 ^ 64 }
-    ensures exact { Gives (λ x. (x.0.items, x.1.now)) result (entries_at parts.now.index parts.now.blocks parts.now.index 8 [] bytes.now) }
+    requires { index + length bytes.now < 2 ^ 64 }
+    ensures exact { Gives (λ x. (x.0.items, x.1.now)) result (entries_at index count index 8 [] bytes.now) }
+    ensures len { IfOk result (λ x. length x.1.now ≤ length bytes.now) }
 {
     let most = bytes.len() / SHORTEST_ENTRY;
-    let mut entries = Vec::with_capacity(alloc, most.min(parts.blocks as usize))?;
+    let mut entries = Vec::with_capacity(alloc, most.min(count as usize))?;
     let mut last: &[u8] = &[];
     let mut start = Some(8);
     let mut rest = bytes;
-    for done in 0..parts.blocks {
-        let at = parts.index + (bytes.len() - rest.len()) as u64;
-        let left = parts.blocks - done - 1;
-        let begin = start.ok_or(Fault { at })?;
-        let (entry, after) = entry_of(parts.index, left, at, begin, last, rest)?;
+    for done in 0..count {
+        let at = index + (bytes.len() - rest.len()) as u64;
+        let begin = match start {
+            Some(begin) => begin,
+            None => return Err(BlockError::Bad { at }),
+        };
+        let (entry, after) = entry_of(index, count - done - 1, at, begin, last, rest)?;
         entries.push(entry.to_entry(alloc)?)?;
-        start = entry.end();
+        start = end_of(begin, entry.len);
         last = entry.last;
         rest = after;
     }
@@ -166,8 +171,12 @@ fn entries_of<'a>(
 pub fn index_of(alloc: Global, parts: &Parts, bytes: &[u8]) -> Result<Vec<IndexEntry>, BlockError>
     requires { parts.now.index + length bytes.now ≡ parts.now.filter }
     ensures exact { Gives (λ entries. entries.items) result (index_at parts.now bytes.now) }
+    ensures count { IfOk result (λ entries. length entries.items ≡ parts.now.blocks) }
+    // Their blocks lie one after the other, up to the index.
+    ensures entries { IfOk result (λ entries. IsEntries parts.now.index 8 [] entries.items) }
 {
-    let (entries, left) = entries_of(alloc, parts, bytes)?;
-    holds(left.is_empty(), parts.filter - left.len() as u64)?;
+    let end = parts.filter;
+    let (entries, left) = entries_of(alloc, parts.index, parts.blocks, bytes)?;
+    holds(left.is_empty(), end - left.len() as u64)?;
     Ok(entries)
 }

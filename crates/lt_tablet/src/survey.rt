@@ -1,7 +1,9 @@
 //! One pass over a block: are its records those that the tablet asks for, and what are they together with those before?
-ghost use Rattle.std.specs.Prelude.{◌≡◌, ◌≤◌, ◌++◌, ◌∷◌, [], List, Ok, OnOk, IfErr, option_copied, length};
-ghost use Rattle.lt_rec.specs.Record.{Record};
+ghost use Rattle.std.specs.Prelude.{◌≡◌, ◌≤◌, ◌++◌, ◌∷◌, [], List, Ok, OnOk, IfErr, option_copied, option_map, length, if◌then◌else◌};
+ghost use Rattle.lt_rec.specs.Record.{Record, stem_of};
+ghost use Rattle.lt_bloom.specs.Hash.{hash_of};
 ghost use Rattle.lt_block.specs.Reading.{Fails};
+ghost use Rattle.lt_tablet.specs.Spelling.{differs};
 ghost use Rattle.lt_tablet.specs.Reading.{own_block_at};
 ghost use Rattle.lt_tablet.specs.Surveying.{Checks, last_of, found_in};
 
@@ -63,10 +65,32 @@ impl Survey {
         ensures { OnOk result ((recs : List Record) (r : Record) → r.key ≡ key.now → r.ts ≡ ts → r.seq ≡ seq → option_copied before.entry ≡ last_of recs → self.old ≡ found_in recs → self.new ≡ found_in (recs ++ r ∷ [])) }
     {
         let stem = stem_of(key);
-        if before.map(stem_of) != Some(stem) {
-            self.hashes.push(stem_hash(stem))?;
-        }
+        note_stem(&mut self.hashes, before, stem)?;
         self.totals.add(ts, seq)
+    }
+}
+
+/// A hash for a stem that differs from that of the key before it.
+fn note_stem(
+    hashes: &mut Vec<u64>,
+    before: Option<&[u8]>,
+    stem: &[u8],
+) -> Result<(), NoMemory>
+    ensures { OnOk result (hashes.new.items ≡ hashes.old.items ++ (if differs (option_map stem_of (option_copied before.entry)) stem.now then hash_of stem.now ∷ [] else [])) }
+{
+    if is_new(before, stem) {
+        hashes.push(stem_hash(stem))?;
+    }
+    Ok(())
+}
+
+/// There is no key before, or its stem is another one.
+fn is_new(before: Option<&[u8]>, stem: &[u8]) -> bool
+    ensures { result ≡ differs (option_map stem_of (option_copied before.entry)) stem.now }
+{
+    match before {
+        Some(key) => stem_of(key) != stem,
+        None => true,
     }
 }
 
@@ -78,7 +102,7 @@ pub fn check_block(totals: &Totals, entry: &IndexEntry, bytes: &[u8]) -> Result<
     ensures exact { Checks result (own_block_at totals.now entry.now bytes.now) }
 {
     let (count, behind) = u32_at(0, bytes)?;
-    holds(count == entry.count, 0)?;
+    holds(entry.count == count, 0)?;
     let mut last: &[u8] = &[];
     let mut rest = behind;
     for done in 0..count {
@@ -104,7 +128,7 @@ pub fn survey_block(
     ensures fault { IfErr result (λ why. Fails why (own_block_at totals.now entry.now bytes.now)) }
 {
     let (count, behind) = u32_at(0, bytes)?;
-    holds(count == entry.count, 0)?;
+    holds(entry.count == count, 0)?;
     let mut last: &[u8] = &[];
     let mut known = before;
     let mut rest = behind;
