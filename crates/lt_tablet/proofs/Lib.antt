@@ -9,3 +9,6 @@ pub mod Expected
 pub mod Loops
 pub mod Load
 pub mod Stems
+pub mod Within
+pub mod Answering
+pub mod SoFar

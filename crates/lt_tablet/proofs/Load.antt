@@ -97,6 +97,28 @@ refuse_mapped (read_errors.Bad file at) (Err d) g f h = err_is d at h
 refuse_mapped read_errors.Fault r g f h = tt
 refuse_mapped read_errors.NoMemory r g f h = tt
 
+pub ends_no_place : (why : ReadError) (t : Totals) (listed : ℕ) (bytes : List ℕ) → Refuses why (footer_place listed (length bytes)) → Refuses why (ends_at t listed bytes)
+unfolding ends_at
+ends_no_place why t listed bytes h = refuse_first why (footer_place listed (length bytes)) (to_footer t bytes) h
+
+ends_from_footer : (t : Totals) (listed foot : ℕ) (bytes : List ℕ) → footer_place listed (length bytes) ≡ Ok foot → ends_at t listed bytes ≡ to_footer t bytes foot
+unfolding ends_at
+ends_from_footer t listed foot bytes e = ap (λ (q : Result ℕ ℕ). q >>= to_footer t bytes) e
+
+pub ends_no_footer : (why : ReadError) (t : Totals) (listed foot : ℕ) (bytes : List ℕ) → footer_place listed (length bytes) ≡ Ok foot → Refuses why (footer_at t foot (drop foot bytes)) → Refuses why (ends_at t listed bytes)
+ends_no_footer why t listed foot bytes e h =
+    refuse_same why (ends_at t listed bytes) (to_footer t bytes foot) (ends_from_footer t listed foot bytes e) (refuse_first why (footer_at t foot (drop foot bytes)) (to_header bytes foot) h)
+
+ends_from_header : (t : Totals) (listed foot : ℕ) (p : Parts) (bytes : List ℕ) → footer_place listed (length bytes) ≡ Ok foot → footer_at t foot (drop foot bytes) ≡ Ok p → ends_at t listed bytes ≡ to_header bytes foot p
+ends_from_header t listed foot p bytes e f = ends_from_footer t listed foot bytes e ∙ ap (λ (q : Result Parts ℕ). q >>= to_header bytes foot) f
+
+pub ends_no_header : (why : ReadError) (t : Totals) (listed foot : ℕ) (p : Parts) (bytes : List ℕ) → footer_place listed (length bytes) ≡ Ok foot → footer_at t foot (drop foot bytes) ≡ Ok p → Refuses why (header_at bytes) → Refuses why (ends_at t listed bytes)
+ends_no_header why t listed foot p bytes e f h =
+    refuse_same why (ends_at t listed bytes) (to_header bytes foot p) (ends_from_header t listed foot p bytes e f) (refuse_first why (header_at bytes) (λ _. placed foot p) h)
+
+pub ends_read : (t : Totals) (listed foot : ℕ) (p : Parts) (bytes : List ℕ) (u : Unit {0}) → footer_place listed (length bytes) ≡ Ok foot → footer_at t foot (drop foot bytes) ≡ Ok p → header_at bytes ≡ Ok u → ends_at t listed bytes ≡ Ok (foot, p)
+ends_read t listed foot p bytes u e f h = ends_from_header t listed foot p bytes e f ∙ ap (λ (q : Result (Unit {0}) ℕ). q >>= λ _. placed foot p) h
+
 pub refuse_index : (why : ReadError) (t : Totals) (listed : ℕ) (bytes : List ℕ) (x : ℕ × Parts) → ends_at t listed bytes ≡ Ok x → Refuses why (index_at x.1 (between x.1.index x.1.filter bytes)) → Refuses why (file_at t listed bytes)
 refuse_index why t listed bytes x e h =
     refuse_same why (file_at t listed bytes) (from_header x.0 t bytes x.1) (after_ends t listed bytes x e) (refuse_first why (index_at x.1 (between x.1.index x.1.filter bytes)) (from_index x.0 t bytes x.1) h)
@@ -140,6 +162,21 @@ refuse_filter why t listed bytes x es found e i s h =
     refuse_same why (file_at t listed bytes) (from_blocks x.0 t bytes x.1 b.blocks) (after_blocks t listed bytes x es b.blocks e i b.read)
     (no_end why (totals_at x.0 t (totals_of (joined b.blocks))) (filter_at x.0 x.1 (between x.1.filter x.0 bytes) (filter_of (joined b.blocks))) (filter_of (joined b.blocks)) b.blocks
     (subst (λ (f : Found). Refuses why (filter_found t x.0 x.1 f bytes)) (sym b.found_is) h))
+
+abbrev then_same : ℕ → Parts → Found → List ℕ → Result (List ℕ) ℕ
+then_same foot p found bytes = filter_at foot p (between p.filter foot bytes) (filter_bytes found.hashes) >>= λ _. Ok (filter_bytes found.hashes)
+
+pub filter_no_totals : (why : ReadError) (t : Totals) (foot : ℕ) (p : Parts) (found : Found) (bytes : List ℕ) → Refuses why (totals_at foot t found.totals) → Refuses why (filter_found t foot p found bytes)
+filter_no_totals why t foot p found bytes h = refuse_first why (totals_at foot t found.totals) (λ _. then_same foot p found bytes) h
+
+pub filter_no_same : (why : ReadError) (t : Totals) (foot : ℕ) (p : Parts) (found : Found) (bytes : List ℕ) (u : Unit {0}) → totals_at foot t found.totals ≡ Ok u → Refuses why (filter_at foot p (between p.filter foot bytes) (filter_bytes found.hashes)) → Refuses why (filter_found t foot p found bytes)
+filter_no_same why t foot p found bytes u e h =
+    refuse_same why (filter_found t foot p found bytes) (then_same foot p found bytes) (ap (λ (q : Result (Unit {0}) ℕ). q >>= λ _. then_same foot p found bytes) e)
+    (refuse_first why (filter_at foot p (between p.filter foot bytes) (filter_bytes found.hashes)) (λ _. Ok (filter_bytes found.hashes)) h)
+
+pub filter_read : (t : Totals) (foot : ℕ) (p : Parts) (found : Found) (bytes : List ℕ) (u v : Unit {0}) → totals_at foot t found.totals ≡ Ok u → filter_at foot p (between p.filter foot bytes) (filter_bytes found.hashes) ≡ Ok v → filter_found t foot p found bytes ≡ Ok (filter_bytes found.hashes)
+filter_read t foot p found bytes u v e f =
+    ap (λ (q : Result (Unit {0}) ℕ). q >>= λ _. then_same foot p found bytes) e ∙ ap (λ (q : Result (Unit {0}) ℕ). q >>= λ _. Ok (filter_bytes found.hashes)) f
 
 -- ---- all is read
 

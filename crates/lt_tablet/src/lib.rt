@@ -6,6 +6,7 @@ mod errors;
 mod footer;
 mod index;
 mod laws;
+mod loading;
 mod records;
 mod survey;
 mod totals;

@@ -1,5 +1,5 @@
 //! The records of a block in its tablet: those of a block, with what the tablet asks of each.
-ghost use Rattle.std.specs.Prelude.{◌≡◌, ◌≤◌, ◌+◌, ◌||◌, nat_lt, take, drop, length, IfOk};
+ghost use Rattle.std.specs.Prelude.{◌≡◌, ◌≤◌, ◌+◌, ◌||◌, nat_lt, take, drop, length, IfOk, IfErr};
 ghost use Rattle.std.specs.Int.{w64, from_be_bytes};
 ghost use Rattle.lt_rec.specs.Record.{stem_of, time_of, stored_len};
 ghost use Rattle.lt_block.specs.Reading.{Reads};
@@ -90,6 +90,7 @@ pub fn own_record_of<'a>(
     requires { at ≤ 65536 }
     ensures exact { Reads (λ x. (x.0, x.1.now)) result (own_record_at totals.now entry.now left at last.now bytes.now) }
     ensures len { IfOk result (λ x. stored_len x.0 + length x.1.now ≡ length bytes.now) }
+    ensures within { IfErr result (λ fault. fault.at ≤ at + length bytes.now) }
 {
     let (key_len, _) = u32_at(at, bytes)?;
     holds(is_key_length(key_len), at)?;

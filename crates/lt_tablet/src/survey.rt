@@ -1,11 +1,11 @@
 //! One pass over a block: are its records those that the tablet asks for, and what are they together with those before?
-ghost use Rattle.std.specs.Prelude.{◌≡◌, ◌≤◌, ◌++◌, ◌∷◌, [], List, Ok, OnOk, IfErr, option_copied, option_map, length, if◌then◌else◌};
+ghost use Rattle.std.specs.Prelude.{◌≡◌, ◌<◌, ◌≤◌, ◌++◌, ◌∷◌, [], List, Ok, Some, OnOk, IfErr, option_copied, option_map, length, if◌then◌else◌};
 ghost use Rattle.lt_rec.specs.Record.{Record, stem_of};
 ghost use Rattle.lt_bloom.specs.Hash.{hash_of};
 ghost use Rattle.lt_block.specs.Reading.{Fails};
 ghost use Rattle.lt_tablet.specs.Spelling.{differs};
 ghost use Rattle.lt_tablet.specs.Reading.{own_block_at};
-ghost use Rattle.lt_tablet.specs.Surveying.{Checks, last_of, found_in};
+ghost use Rattle.lt_tablet.specs.Surveying.{Checks, IsWithin, last_of, found_in};
 
 use crate::footer::holds;
 use crate::index::IndexEntry;
@@ -100,6 +100,7 @@ fn is_new(before: Option<&[u8]>, stem: &[u8]) -> bool
 pub fn check_block(totals: &Totals, entry: &IndexEntry, bytes: &[u8]) -> Result<(), Fault>
     requires { length bytes.now ≤ 65536 }
     ensures exact { Checks result (own_block_at totals.now entry.now bytes.now) }
+    ensures within { IfErr result (λ fault. fault.at ≤ length bytes.now) }
 {
     let (count, behind) = u32_at(0, bytes)?;
     holds(entry.count == count, 0)?;
@@ -124,8 +125,9 @@ pub fn survey_block(
     survey: &mut Survey,
 ) -> Result<(), BlockError>
     requires { length bytes.now ≤ 65536 }
-    ensures found { OnOk result ((recs : List Record) → option_copied before.entry ≡ last_of recs → survey.old ≡ found_in recs → (own : List Record) × (own_block_at totals.now entry.now bytes.now ≡ Ok own) × (survey.new ≡ found_in (recs ++ own))) }
+    ensures found { OnOk result ((recs : List Record) → option_copied before.entry ≡ last_of recs → survey.old ≡ found_in recs → (own : List Record) × (own_block_at totals.now entry.now bytes.now ≡ Ok own) × (survey.new ≡ found_in (recs ++ own)) × (0 < entry.now.count → last_of own ≡ Some entry.now.last)) }
     ensures fault { IfErr result (λ why. Fails why (own_block_at totals.now entry.now bytes.now)) }
+    ensures within { IfErr result (λ why. IsWithin (length bytes.now) why) }
 {
     let (count, behind) = u32_at(0, bytes)?;
     holds(entry.count == count, 0)?;

@@ -8,6 +8,7 @@ use Rattle.lt_tablet.specs.Reading.{own_records_at, own_block_at}
 use Rattle.lt_tablet.specs.Surveying.{last_of, found_in}
 use Rattle.lt_tablet.proofs.Loops.{records_start, block_stop, block_done, block_read, records_next, checks_end}
 use Rattle.lt_tablet.proofs.Stems.{last_of_push}
+use Rattle.lt_tablet.proofs.SoFar.{own_last}
 use Rattle.lt_tablet.proofs.survey.survey_block.Goals as goal
 
 pub loop-done-init : goal.loop-done-init
@@ -45,9 +46,11 @@ returns-in_err-holds-2-clause-fault c =
     (block_done c.loop-done.invariant.1 c.args.totals.now c.args.entry.now c.args.bytes.now c.entry.inside.count c.in_ok-count.count c.in_ok-count.behind.now c.in_ok-holds.field-0 c.loop-done.done (length c.args.bytes.now - length c.loop-done.rest.now) c.loop-done.last.now c.loop-done.rest.now (ap (λ (v : Entry). v.count) c.entry.view_is) c.in_ok-count.ensures.exact c.in_ok-holds.ensures.exact c.loop-done-test.false c.loop-done.invariant.2))
 
 pub returns-clause-found : goal.returns-clause-found
-returns-clause-found c = λ recs before old. (
-  c.loop-done.invariant.1,
-  block_read c.loop-done.invariant.1 c.is_empty.result (nat_eq (length c.loop-done.rest.now) 0) (length c.args.bytes.now - length c.loop-done.rest.now) c.in_ok-holds-2.field-0 (own_block_at c.args.totals.now c.args.entry.now c.args.bytes.now) c.is_empty.ensures c.in_ok-holds-2.ensures.exact
-  (block_done c.loop-done.invariant.1 c.args.totals.now c.args.entry.now c.args.bytes.now c.entry.inside.count c.in_ok-count.count c.in_ok-count.behind.now c.in_ok-holds.field-0 c.loop-done.done (length c.args.bytes.now - length c.loop-done.rest.now) c.loop-done.last.now c.loop-done.rest.now (ap (λ (v : Entry). v.count) c.entry.view_is) c.in_ok-count.ensures.exact c.in_ok-holds.ensures.exact c.loop-done-test.false c.loop-done.invariant.2),
-  (c.loop-done.invariant.3 recs before old).1,
-)
+returns-clause-found c = λ recs before old.
+    let read = block_read c.loop-done.invariant.1 c.is_empty.result (nat_eq (length c.loop-done.rest.now) 0) (length c.args.bytes.now - length c.loop-done.rest.now) c.in_ok-holds-2.field-0 (own_block_at c.args.totals.now c.args.entry.now c.args.bytes.now) c.is_empty.ensures c.in_ok-holds-2.ensures.exact
+    (block_done c.loop-done.invariant.1 c.args.totals.now c.args.entry.now c.args.bytes.now c.entry.inside.count c.in_ok-count.count c.in_ok-count.behind.now c.in_ok-holds.field-0 c.loop-done.done (length c.args.bytes.now - length c.loop-done.rest.now) c.loop-done.last.now c.loop-done.rest.now (ap (λ (v : Entry). v.count) c.entry.view_is) c.in_ok-count.ensures.exact c.in_ok-holds.ensures.exact c.loop-done-test.false c.loop-done.invariant.2) in (
+      c.loop-done.invariant.1,
+      read,
+      (c.loop-done.invariant.3 recs before old).1,
+      λ some. own_last c.args.totals.now c.args.entry.now c.args.bytes.now c.loop-done.invariant.1 (λ i. omega (arith, c.type_inv.bytes i)) c.requires some read,
+    )
