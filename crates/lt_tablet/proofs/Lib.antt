@@ -12,3 +12,4 @@ pub mod Stems
 pub mod Within
 pub mod Answering
 pub mod SoFar
+pub mod Places

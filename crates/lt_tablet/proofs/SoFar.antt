@@ -59,7 +59,7 @@ joined_push (b ∷ blocks) own = ap (λ (xs : List Record). b ++ xs) (joined_pus
 abbrev with_blocks : List (List Record) → Result (List (List Record)) ℕ → Result (List (List Record)) ℕ
 with_blocks front read = read >>= λ x. Ok (front ++ x)
 
-abbrev behind : List Record → Result (List (List Record)) ℕ → Result (List (List Record)) ℕ
+abbrev pub behind : List Record → Result (List (List Record)) ℕ → Result (List (List Record)) ℕ
 behind own read = read >>= λ x. Ok (own ∷ x)
 
 with_none : (read : Result (List (List Record)) ℕ) → with_blocks [] read ≡ read
@@ -113,11 +113,11 @@ pub so_far_lies : (honest : Bool) (t : Totals) (bytes : List ℕ) (es : List Ent
 so_far_lies honest t bytes es e rest before found h =
     record { within = omega (arith, h.entries.0.placed, end_later (h.begin + e.len) rest, h.ends); short = h.entries.0.short_enough; some = h.entries.0.some }
 
-abbrev own_part : Totals → Entry → List ℕ → Result (List Record) ℕ
+abbrev pub own_part : Totals → Entry → List ℕ → Result (List Record) ℕ
 own_part t e bytes = own_block_at t e (take e.len (drop e.offset bytes))
 
 -- blocks from an entry's on
-blocks_from : (t : Totals) (e : Entry) (rest : List Entry) (begin : ℕ) (bytes : List ℕ) → e.offset ≡ begin → blocks_at t (e ∷ rest) (drop begin bytes) ≡ (moved e.offset (own_part t e bytes) >>= λ own. behind own (blocks_at t rest (drop (begin + e.len) bytes)))
+pub blocks_from : (t : Totals) (e : Entry) (rest : List Entry) (begin : ℕ) (bytes : List ℕ) → e.offset ≡ begin → blocks_at t (e ∷ rest) (drop begin bytes) ≡ (moved e.offset (own_part t e bytes) >>= λ own. behind own (blocks_at t rest (drop (begin + e.len) bytes)))
 unfolding blocks_at
 blocks_from t e rest begin bytes placed =
     ap (λ (n : ℕ). moved e.offset (own_block_at t e (take e.len (drop n bytes))) >>= λ own. behind own (blocks_at t rest (drop e.len (drop begin bytes)))) (sym placed)

@@ -1,5 +1,5 @@
 -- A tablet as it is known: its listing, its index, its filter and, where the device tells them, the bytes of its file.
-use Rattle.std.specs.Prelude.{◌≡◌, ◌≤◌, ◌<◌, ◌+◌, ℕ, Bool, true, ◌&&◌, nat_le, ◌↔◌, IsTrue, List, [], length, Result, Ok, Err, slice_get, Some}
+use Rattle.std.specs.Prelude.{◌≡◌, ◌≤◌, ◌<◌, ◌+◌, ◌^◌, ℕ, Bool, true, ◌&&◌, nat_le, ◌↔◌, IsTrue, List, [], length, Result, Ok, Err, slice_get, Some}
 use Rattle.lt_rec.specs.declared.listed.Listed.{Listed}
 use Rattle.lt_rec.specs.declared.raw_box.RawBox.{RawBox}
 use Rattle.lt_rec.specs.Boxes.{meets_lo, meets_hi}
@@ -44,6 +44,7 @@ pub record IsTold (t : Loaded) : Type 0 where
 pub record IsLoaded (told : Bool) (number size : ℕ) (t : Loaded) : Type 0 where
   pub number_is : number ≡ t.listed.file
   pub size_is : size ≡ t.listed.bytes
+  pub in_range : size < 2 ^ 64
   pub some : 0 < length t.index
   pub entries : IsEntries (end_of 8 t.index) 8 [] t.index
   pub within : end_of 8 t.index ≤ size

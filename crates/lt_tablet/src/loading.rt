@@ -16,6 +16,7 @@ use crate::footer::{
 };
 use crate::index::{IndexEntry, index_of};
 use crate::survey::{Survey, survey_block};
+use crate::tablet::Tablet;
 use crate::totals::Totals;
 use bytes::Bytes;
 use lt_block::{BlockError, Fault};
@@ -247,4 +248,29 @@ fn read_filter<V: Device>(
         check_filter(foot, parts, bytes.as_slice(), filter.as_slice()),
     )?;
     Ok(filter)
+}
+
+impl<V: Device> Tablet<V> {
+    /// Reads and checks a whole file. It is refused where a check fails, by the file and the offset that the first
+    /// failing one names.
+    pub fn load(
+        alloc: Global,
+        dev: &mut V,
+        reader: V::Reader,
+        listed: Listed,
+    ) -> Result<Tablet<V>, ReadError>
+        requires { V.reader_number reader ≡ listed.file }
+        // Where the reader tells its bytes: they are read exactly where they are a file, else the first broken rule is named.
+        ensures exact { V.honest ≡ true → Loads (λ t. blocks_in t) result (file_at (listed_totals listed) listed.bytes (V.reader_bytes reader)) }
+        ensures listed { IfOk result (λ t. t.listed ≡ listed) }
+        ensures bytes { IfOk result (λ t. t.bytes ≡ V.reader_bytes reader) }
+        ensures names { IfErr result (λ why. IsOfFile listed.file why) }
+        ensures cause { Counts (V.faults dev.old) (V.faults dev.new) (IsErrOf result ReadError.Fault) }
+    {
+        let (foot, parts) = read_ends(dev, &reader, &listed)?;
+        let index = read_index(alloc, dev, &reader, listed.file, &parts)?;
+        let survey = survey_all(alloc, dev, &reader, &listed, index.as_slice())?;
+        let filter = read_filter(alloc, dev, &reader, &listed, foot, &parts, &survey)?;
+        Ok(Tablet::from_parts(reader, listed, index, filter))
+    }
 }

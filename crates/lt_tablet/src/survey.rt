@@ -2,7 +2,7 @@
 ghost use Rattle.std.specs.Prelude.{◌≡◌, ◌<◌, ◌≤◌, ◌++◌, ◌∷◌, [], List, Ok, Some, OnOk, IfErr, option_copied, option_map, length, if◌then◌else◌};
 ghost use Rattle.lt_rec.specs.Record.{Record, stem_of};
 ghost use Rattle.lt_bloom.specs.Hash.{hash_of};
-ghost use Rattle.lt_block.specs.Reading.{Fails};
+ghost use Rattle.lt_block.specs.Reading.{Fails, block_at};
 ghost use Rattle.lt_tablet.specs.Spelling.{differs};
 ghost use Rattle.lt_tablet.specs.Reading.{own_block_at};
 ghost use Rattle.lt_tablet.specs.Surveying.{Checks, IsWithin, last_of, found_in};
@@ -101,6 +101,8 @@ pub fn check_block(totals: &Totals, entry: &IndexEntry, bytes: &[u8]) -> Result<
     requires { length bytes.now ≤ 65536 }
     ensures exact { Checks result (own_block_at totals.now entry.now bytes.now) }
     ensures within { IfErr result (λ fault. fault.at ≤ length bytes.now) }
+    // They are a block's.
+    ensures block { OnOk result ((recs : List Record) → 0 < entry.now.count → own_block_at totals.now entry.now bytes.now ≡ Ok recs → block_at bytes.now ≡ Ok recs) }
 {
     let (count, behind) = u32_at(0, bytes)?;
     holds(entry.count == count, 0)?;

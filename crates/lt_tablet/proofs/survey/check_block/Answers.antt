@@ -5,6 +5,8 @@ use Rattle.lt_rec.specs.Record.{stored_len}
 use Rattle.lt_tablet.specs.Spelling.{Entry}
 use Rattle.lt_tablet.specs.Reading.{own_records_at, own_block_at}
 use Rattle.lt_tablet.proofs.Loops.{block_stop, block_done, records_next, checks_end}
+use Rattle.lt_tablet.proofs.Own.{own_block_takes}
+use Rattle.lt_tablet.proofs.Places.{on_ok}
 use Rattle.lt_tablet.proofs.survey.check_block.Goals as goal
 
 pub returns-in_err-rec-clause-exact : goal.returns-in_err-rec-clause-exact
@@ -24,3 +26,6 @@ pub returns-clause-exact : goal.returns-clause-exact
 returns-clause-exact c =
     checks_end c.holds-2.result c.loop-done.invariant.1 c.is_empty.result (nat_eq (length c.loop-done.rest.now) 0) (length c.args.bytes.now - length c.loop-done.rest.now) (own_block_at c.args.totals.now c.args.entry.now c.args.bytes.now) c.is_empty.ensures c.holds-2.ensures.exact
     (block_done c.loop-done.invariant.1 c.args.totals.now c.args.entry.now c.args.bytes.now c.entry.inside.count c.in_ok-count.count c.in_ok-count.behind.now c.in_ok-holds.field-0 c.loop-done.done (length c.args.bytes.now - length c.loop-done.rest.now) c.loop-done.last.now c.loop-done.rest.now (ap (λ (v : Entry). v.count) c.entry.view_is) c.in_ok-count.ensures.exact c.in_ok-holds.ensures.exact c.loop-done-test.false c.loop-done.invariant.2)
+
+pub returns-clause-block : goal.returns-clause-block
+returns-clause-block c = on_ok c.holds-2.result (λ recs some read. (own_block_takes c.args.totals.now c.args.entry.now c.args.bytes.now recs (λ i. omega (arith, c.type_inv.bytes i)) c.requires some read).read)
