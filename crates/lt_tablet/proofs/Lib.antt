@@ -13,3 +13,4 @@ pub mod Within
 pub mod Answering
 pub mod SoFar
 pub mod Places
+pub mod Range

@@ -105,6 +105,22 @@ impl<V: Device> Tablet<V> {
         let entry = &self.index[i as usize];
         read_block(alloc, dev, &self.reader, &self.listed, entry)
     }
+
+    /// The blocks, from one up to another, that may have records of the box: those whose last key isn't below its lower
+    /// bound and whose first key is below its upper one. None where no timestamp of the tablet is one of the box's. Takes no memory.
+    pub fn index_range(&self, area: &RawBox) -> (u64, u64)
+        ensures exact { IsIndexRange self.now area.now result.0 result.1 }
+        // No block outside it has a record of the box.
+        ensures outside { V.honest ≡ true → (i : ℕ) (recs : List Record) → slice_get (blocks_in self.now) i ≡ Some recs → ((i < result.0) ⊎ (result.1 ≤ i)) → All (λ r. in_box area.now r ≡ false) recs }
+    {
+        if self.listed.high < area.from || area.to < self.listed.low {
+            return (0, 0);
+        }
+        let index = self.index.as_slice();
+        let from = index.partition_point(|entry| !area.meets_lo(entry.last.as_slice()));
+        let to = index.partition_point(|entry| area.meets_hi(entry.first.as_slice()));
+        (from.min(to) as u64, to as u64)
+    }
 }
 
 impl<V: Device> Enters<V> for Tablet<V> {
