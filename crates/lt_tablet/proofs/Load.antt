@@ -227,16 +227,16 @@ all_bytes bytes a b c d p q r s t i =
     elim (cases_lt i a) [
       | inl lt ↦ p i (omega arith) lt
       | inr ge ↦ elim (cases_lt i b) [
-          | inl lt ↦ q i ge lt
-          | inr ge2 ↦ elim (cases_lt i c) [
-              | inl lt ↦ r i ge2 lt
-              | inr ge3 ↦ elim (cases_lt i d) [
-                  | inl lt ↦ s i ge3 lt
-                  | inr ge4 ↦ elim (cases_lt i (length bytes)) [
-                      | inl lt ↦ t i ge4 lt
-                      | inr past ↦ rw (get_or_past bytes i 0 past) (omega arith)
-                    ]
-                ]
+        | inl lt ↦ q i ge lt
+        | inr ge2 ↦ elim (cases_lt i c) [
+          | inl lt ↦ r i ge2 lt
+          | inr ge3 ↦ elim (cases_lt i d) [
+            | inl lt ↦ s i ge3 lt
+            | inr ge4 ↦ elim (cases_lt i (length bytes)) [
+              | inl lt ↦ t i ge4 lt
+              | inr past ↦ rw (get_or_past bytes i 0 past) (omega arith)
             ]
+          ]
         ]
+      ]
     ]

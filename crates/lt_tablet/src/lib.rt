@@ -17,3 +17,5 @@ pub use errors::{ReadError, WriteError};
 pub use laws::file_laws;
 pub use tablet::Tablet;
 
+#[cfg(test)]
+mod tests;

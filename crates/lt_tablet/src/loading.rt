@@ -31,10 +31,7 @@ fn named<T>(file: u64, checked: Result<T, Fault>) -> Result<T, ReadError>
 {
     match checked {
         Ok(value) => Ok(value),
-        Err(fault) => Err(ReadError::Bad {
-            file,
-            at: fault.at,
-        }),
+        Err(fault) => Err(ReadError::Bad { file, at: fault.at }),
     }
 }
 
@@ -185,7 +182,13 @@ fn survey_entry<V: Device>(
 {
     let (start, file) = (entry.offset, listed.file);
     let bytes = read(dev, reader, start, u64::from(entry.len))?;
-    match survey_block(&Totals::listed(listed), entry, before, bytes.as_slice(), survey) {
+    match survey_block(
+        &Totals::listed(listed),
+        entry,
+        before,
+        bytes.as_slice(),
+        survey,
+    ) {
         Ok(()) => Ok(()),
         Err(why) => Err(in_block(file, start, why)),
     }

@@ -71,11 +71,7 @@ impl Survey {
 }
 
 /// A hash for a stem that differs from that of the key before it.
-fn note_stem(
-    hashes: &mut Vec<u64>,
-    before: Option<&[u8]>,
-    stem: &[u8],
-) -> Result<(), NoMemory>
+fn note_stem(hashes: &mut Vec<u64>, before: Option<&[u8]>, stem: &[u8]) -> Result<(), NoMemory>
     ensures { OnOk result (hashes.new.items ≡ hashes.old.items ++ (if differs (option_map stem_of (option_copied before.entry)) stem.now then hash_of stem.now ∷ [] else [])) }
 {
     if is_new(before, stem) {

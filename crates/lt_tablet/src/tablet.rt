@@ -1,13 +1,14 @@
-ghost use Rattle.std.specs.Prelude.{◌≡◌, ◌<◌, ◌≤◌, ◌+◌, ◌⊎◌, ℕ, true, false, List, All, length, slice_get, Some, IfOk, IfErr, IsErrOf};
+ghost use Rattle.std.specs.Prelude.{◌≡◌, ◌<◌, ◌≤◌, ◌+◌, ◌⊎◌, ℕ, true, false, List, [], All, length, slice_get, Some, IfOk, IfErr, IsErrOf};
 ghost use Rattle.lt_rec.specs.Record.{Record};
 ghost use Rattle.lt_rec.specs.Boxes.{in_box};
 ghost use Rattle.lt_io.specs.Device.{Counts};
-ghost use Rattle.lt_tablet.specs.Spelling.{Entry, filter_of};
-ghost use Rattle.lt_tablet.specs.Loaded.{IsLoaded, blocks_in, records_in, IsIndexRange};
+ghost use Rattle.lt_tablet.specs.Spelling.{Entry, end_of, filter_of};
+ghost use Rattle.lt_tablet.specs.Entries.{IsEntries};
+ghost use Rattle.lt_tablet.specs.Loaded.{IsLoaded, IsTold, blocks_in, records_in, IsIndexRange};
 ghost use Rattle.lt_tablet.specs.Causes.{IsNoBad, IsOfFile};
 
-use crate::errors::ReadError;
 use crate::block::read_block;
+use crate::errors::ReadError;
 use crate::index::IndexEntry;
 use lt_block::Block;
 use lt_bloom::Filter;
@@ -59,6 +60,10 @@ impl<V: Device> Tablet<V> {
     pub fn count(&self) -> u64
         ensures value { result ≡ length self.now.index }
         ensures some { 0 < result }
+        // Its blocks lie one after the other, and keys rise from each to the next.
+        ensures entries { IsEntries (end_of 8 self.now.index) 8 [] self.now.index }
+        // Where the device tells its file's bytes, they are a file of these blocks.
+        ensures told { V.honest ≡ true → IsTold self.now }
     {
         self.index.as_slice().len() as u64
     }

@@ -37,7 +37,7 @@ loop-done-preserved c =
       c.loop-done.invariant.2 + c.in_ok-entry.entry.len,
       c.end_of-start.ensures ∙ (ap (λ (n : ℕ). place_of (n + c.entry.inside.len)) (sym same) ∙ ap (λ (v : Entry). place_of (c.loop-done.invariant.2 + v.len)) c.entry.view_is),
       entries_next c.push.new.self.items c.loop-done.entries.items c.in_ok-to_entry.field-0 c.in_ok-entry.entry c.args.index c.args.count c.loop-done.done (c.args.index + (length c.args.bytes.now - length c.loop-done.rest.now)) (c.args.index + (length c.args.bytes.now - length c.in_ok-entry.after.now)) c.loop-done.invariant.2 c.in-Some.begin (c.args.count - c.loop-done.done - 1) c.loop-done.last.now c.entry.inside.last.now c.loop-done.rest.now c.in_ok-entry.after.now (entries_at c.args.index c.args.count c.args.index 8 [] c.args.bytes.now)
-      c.loop-done-test.true (omega arith) same (omega (arith, len, c.loop-done.invariant.0)) c.in_ok-push.ensures.items c.in_ok-to_entry.ensures (ap (λ (v : Entry). v.last) c.entry.view_is) c.in_ok-entry.ensures.exact c.loop-done.invariant.4,
+          c.loop-done-test.true (omega arith) same (omega (arith, len, c.loop-done.invariant.0)) c.in_ok-push.ensures.items c.in_ok-to_entry.ensures (ap (λ (v : Entry). v.last) c.entry.view_is) c.in_ok-entry.ensures.exact c.loop-done.invariant.4,
     )
 
 pub returns-clause-exact : goal.returns-clause-exact
