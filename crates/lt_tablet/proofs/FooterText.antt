@@ -8,6 +8,7 @@ use Rattle.lt_block.specs.Reading.{◌>>=◌, number_at}
 use Rattle.lt_block.proofs.Fields.{IsBytes, bind_ok, ok_is, Takes, Takes-then, wide64, number_takes, number_again}
 use Rattle.lt_tablet.specs.Spelling.{Totals, Parts, mark, told, numbers, footer_spelled}
 use Rattle.lt_tablet.specs.Reading.{asked, holds, numbers_at, footer_at}
+use Rattle.lt_tablet.specs.Phases.{Lie}
 use Rattle.lt_tablet.proofs.Asked.{done, asked_ok, asked_again, holds_ok, holds_again, same_bytes, bytes_same, numbers_take, Short, numbers_again}
 
 -- ---- a number with a test
@@ -52,15 +53,6 @@ abbrev from_index : Totals → (foot : ℕ) → ℕ × List ℕ → Result Parts
 from_index t foot x = asked (λ n. ltb 0 n) (foot + 8) (number_at w64 (foot + 8) x.1) >>= from_blocks t foot x.0
 
 -- ---- the first law
-
--- where the parts of a file may lie whose footer begins at `foot`
-pub record Lie (foot : ℕ) (p : Parts) : Type 0 where
-  pub behind_header : 8 < p.index
-  pub index_within : p.index ≤ foot
-  pub some : 0 < p.blocks
-  pub behind_index : p.index < p.filter
-  pub filter_within : p.filter ≤ foot
-  pub filter_len : p.filter_len ≡ foot - p.filter
 
 pub record FooterFound (t : Totals) (foot : ℕ) (bytes : List ℕ) (p : Parts) : Type 0 where
   pub spelled : bytes ≡ footer_spelled p t

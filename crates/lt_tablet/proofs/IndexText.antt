@@ -8,16 +8,13 @@ use Rattle.std.proofs.lemmas.List.{length-append}
 use Rattle.lt_rec.specs.Bytes.{is_less}
 use Rattle.lt_block.specs.Reading.{◌>>=◌, number_at, bytes_at, is_key_len}
 use Rattle.lt_block.proofs.Fields.{IsBytes, bind_ok, ok_is, Takes, Takes-then, wide32, wide64, number_takes, number_again, bytes_take, bytes_again}
-use Rattle.lt_tablet.specs.Spelling.{Entry, key_spelled, entry_spelled, Follow, end_of}
+use Rattle.lt_tablet.specs.Spelling.{Entry, key_spelled, entry_spelled, end_of}
+use Rattle.lt_tablet.specs.Entries.{IsKey, IsEntry, IsEntries}
 use Rattle.lt_tablet.specs.Reading.{asked, key_at, is_len, entry_at, entry_len, entries_at}
 use Rattle.lt_tablet.proofs.Asked.{asked_ok, asked_again}
-use Rattle.lt_tablet.proofs.Footer.{asked_takes, number_asked}
+use Rattle.lt_tablet.proofs.FooterText.{asked_takes, number_asked}
 
 -- ---- a key
-
-pub record IsKey (key : List ℕ) : Type 0 where
-  pub long_enough : 8 ≤ length key
-  pub short_enough : length key ≤ 4096
 
 pub record KeyFound (bytes : List ℕ) (x : List ℕ × List ℕ) : Type 0 where
   pub takes : Takes bytes (key_spelled x.0) x.1
@@ -49,18 +46,6 @@ key_again at key rest h =
     ∙ bytes_again at key rest)
 
 -- ---- an entry
-
--- what an entry is, which `left` entries follow
-pub record IsEntry (index left start : ℕ) (last : List ℕ) (e : Entry) : Type 0 where
-  pub placed : e.offset ≡ start
-  pub long_enough : 32 ≤ e.len
-  pub short_enough : e.len ≤ 65536
-  pub ends : left ≡ 0 → start + e.len ≡ index
-  pub some : 0 < e.count
-  pub above : is_less last e.first ≡ true
-  pub ordered : is_less e.last e.first ≡ false
-  pub first : IsKey e.first
-  pub final : IsKey e.last
 
 abbrev made : (offset len count : ℕ) → (first last : List ℕ) → Entry
 made offset len count first last = record { offset = offset; len = len; count = count; first = first; last = last }
@@ -161,10 +146,6 @@ entry_again index left at start last e rest h small few =
 
 -- ---- entries one after the other
 
-abbrev pub IsEntries : (index start : ℕ) → List ℕ → List Entry → Type 0
-IsEntries index start last [] = Unit {0}
-IsEntries index start last (e ∷ es) = IsEntry index (length es) start last e × IsEntries index (start + e.len) e.last es
-
 pub record EntriesFound (index n start : ℕ) (last bytes : List ℕ) (x : List Entry × List ℕ) : Type 0 where
   pub takes : Takes bytes (flat_map entry_spelled x.0) x.1
   pub count : length x.0 ≡ n
@@ -198,10 +179,6 @@ entries_again index at start last (e ∷ es) rest h small =
     ∙ ap (λ (q : Result (List Entry × List ℕ) ℕ). q >>= λ others. Ok (e ∷ others.0, others.1)) (entries_again index (at + entry_len e) (start + e.len) e.last es rest h.1 small.1))
 
 -- ---- what entries are told to be
-
-pub follow : (index start : ℕ) (last : List ℕ) (es : List Entry) → IsEntries index start last es → Follow start last es
-follow index start last [] h = tt
-follow index start last (e ∷ es) h = ((h.0.placed, h.0.above, h.0.ordered), follow index (start + e.len) e.last es h.1)
 
 pub ends : (index start : ℕ) (last : List ℕ) (es : List Entry) → 0 < length es → IsEntries index start last es → end_of start es ≡ index
 ends index start last [] some h = absurd (omega (arith, some))
