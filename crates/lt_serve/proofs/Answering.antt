@@ -20,7 +20,7 @@ use Rattle.lt_model.specs.Growing.{SoFar}
 use Rattle.lt_model.proofs.Growth.{SoFar-nothing, SoFar-more, SoFar-bad}
 use Rattle.lt_plain.specs.Table.{StandsFor, Answers}
 use Rattle.lt_plain.proofs.Steps.{StandsFor-opening, IsLegal-empty, answers_no_memory_insert, answers_no_memory_scan, answers_no_memory_alter}
-use Rattle.lt_lang.specs.Table.{table_schema}
+use Rattle.lt_serve.specs.Table.{table_schema}
 use Rattle.lt_serve.specs.Session.{any_moment, is_built, first_name, client_of, MayAnswer, empty_table}
 use Rattle.lt_serve.specs.Growing.{told, head_of, head_for, HasAnswered}
 use Rattle.lt_serve.proofs.Telling.{told-more, client_of-more, built_later, built_more, told_by_none}

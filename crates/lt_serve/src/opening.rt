@@ -1,7 +1,7 @@
 //! The table that a session opens.
 ghost use Rattle.std.specs.Prelude.{◌≡◌, IsTrue, IfOk};
 ghost use Rattle.lt_schema.specs.Names.{is_name};
-ghost use Rattle.lt_lang.specs.Table.{table_schema};
+ghost use Rattle.lt_serve.specs.Table.{table_schema};
 ghost use Rattle.lt_serve.specs.Session.{empty_table};
 
 use lt_plain::ListTable;

@@ -1,4 +1,4 @@
--- The table of the first path.
+-- The table that a session opens.
 use Rattle.std.specs.Prelude.{pos, [], ◌∷◌, codes}
 use Rattle.lt_schema.specs.declared.kind.Kind.TheVariants.{Int32, Int64, Time, Text as TextKind}
 use Rattle.lt_schema.specs.declared.value.Value.TheVariants.{Int, Text}
