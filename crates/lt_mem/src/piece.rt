@@ -10,7 +10,7 @@ use std::marker::Model;
 use std::sync::Arc;
 
 /// How many records a full vector makes room for at a time, so that little memory stays unused.
-const GROWTH: usize = 64;
+const GROWTH: usize = 128;
 
 /// Neighbouring records, which lists of records may share, and two timestamps that theirs lie between. Contracts see the
 /// list.
