@@ -87,7 +87,7 @@ differ-widened name [] = refl
 differ-widened name (column ∷ columns) = rw (widened-name name column, any-widened column.name name columns, differ-widened name columns) refl
 
 -- each column of the name has 32 bits
-abbrev narrow_where_named : List ℕ → ColumnShape → Bool
+abbrev pub narrow_where_named : List ℕ → ColumnShape → Bool
 narrow_where_named name column = not (has_name name column) || is_int32_kind column.kind
 
 named_or_narrow : (name : List ℕ) (column : ColumnShape) (columns : List ColumnShape) (b : Bool) → has_name name column ≡ b → IsTrue (not (b || list_any (has_name name) columns))
@@ -117,7 +117,7 @@ first_named name column columns true is may differ others =
     rw (is, kind_is_narrow (is_int32_kind column.kind) may) rest
 first_named name column columns false is may differ others = rw is (others may)
 
-narrow_at_most : (name : List ℕ) (columns : List ColumnShape) → IsTrue (names_differ columns) → widening_refusal (find (has_name name) columns) ≡ None → IsTrue (list_all (narrow_where_named name) columns)
+pub narrow_at_most : (name : List ℕ) (columns : List ColumnShape) → IsTrue (names_differ columns) → widening_refusal (find (has_name name) columns) ≡ None → IsTrue (list_all (narrow_where_named name) columns)
 narrow_at_most name [] differ may = refl
 narrow_at_most name (column ∷ columns) differ may =
     first_named name column columns (has_name name column) refl may differ
@@ -230,7 +230,7 @@ is_schema-appended s column lawful name may =
     within_more : (k n : ℕ) → IsTrue (nat_le k n) → IsTrue (nat_le k (n + 1))
     within_more k n within = grind arith
 
-none_is : (o : Option AlterError) → IsTrue (is_none o) → o ≡ None
+pub none_is : (o : Option AlterError) → IsTrue (is_none o) → o ≡ None
 none_is None is = refl
 none_is (Some why) is = cc
 
@@ -248,7 +248,7 @@ is_schema-after s (change ∷ changes) lawful may =
     let m = both_true (is_admitted s change) (are_admitted (changed s change) changes) may in
     is_schema-after (changed s change) changes (is_schema-changed s change lawful m.0) m.1
 
-are_admitted-take : (s : SchemaShape) (changes : List Change) (n : ℕ) → IsTrue (are_admitted s changes) → IsTrue (are_admitted s (take n changes))
+pub are_admitted-take : (s : SchemaShape) (changes : List Change) (n : ℕ) → IsTrue (are_admitted s changes) → IsTrue (are_admitted s (take n changes))
 are_admitted-take s changes zero may = refl
 are_admitted-take s [] (suc n) may = refl
 are_admitted-take s (change ∷ changes) (suc n) may =

@@ -55,7 +55,8 @@ impl Schema {
     }
 }
 
-fn key_len_in_bytes(key: &[Value]) -> u64
+/// How many bytes key values take. Takes no memory.
+pub fn key_len_in_bytes(key: &[Value]) -> u64
     ensures { result ≡ counted (sum_by key_len_of key.now) }
 {
     let mut len: u64 = 0;
@@ -85,7 +86,8 @@ fn key_len_of_bytes(bytes: &[u8]) -> u64
         .saturating_add(2)
 }
 
-fn body_len_in_bytes(columns: &[Column], values: &[Value]) -> u64
+/// How many bytes values take behind the key, under their columns. Takes no memory.
+pub fn body_len_in_bytes(columns: &[Column], values: &[Value]) -> u64
     ensures { result ≡ counted (len_under columns.now values.now) }
 {
     let mut len: u64 = 0;

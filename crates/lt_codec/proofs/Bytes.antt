@@ -1,0 +1,142 @@
+-- How spelled values compare byte by byte.
+use Rattle.std.proofs.Common.{◌≡◌, ℕ, zero, suc, ◌+◌, ◌-◌, ◌*◌, ◌/◌, ◌%◌, ◌^◌, ◌<◌, ◌≤◌, ℤ, pos, negsuc, Bool, true, false, cond, eqb, List, [], ◌∷◌, ◌++◌, length, refl, sym, ap, ◌∙◌, arith, append_assoc, Ordering, Less, Equal, Greater}
+use Rattle.std.specs.Prelude.{IsTrue, nat_lt}
+use Rattle.std.specs.Int.{w64, byte_at, bytes_high_first, to_be_bytes}
+use Rattle.std.specs.Ordering.{nat_cmp, int_cmp, ordering_then, MatchOrdering}
+use Rattle.std.specs.Cmp.{ranks}
+use Rattle.std.specs.Cmp.Lexicographic.{slice_cmp}
+use Rattle.std.proofs.Math.Nat.{pow-suc, mul_comm}
+use Rattle.std.proofs.Math.Arith.{mod-mul}
+use Rattle.std.proofs.lemmas.Nat.{mul-le}
+use Rattle.std.proofs.lemmas.Bool.{eqb-true, eqb-false}
+use Rattle.std.proofs.lemmas.Bool.Decides.{nat_tests}
+use Rattle.lt_codec.specs.Spelling.{turned, escaped}
+use Rattle.lt_codec.specs.Ordering.{is_word}
+
+-- a comparison of two lists that goes byte by byte
+abbrev pub IsByBytes : (List ℕ → List ℕ → Ordering) → Type 0
+IsByBytes compare = (a b : ℕ) (r s : List ℕ) → compare (a ∷ r) (b ∷ s) ≡ ordering_then (nat_cmp a b) (compare r s)
+
+pub then_assoc : (o p q : Ordering) → ordering_then (ordering_then o p) q ≡ ordering_then o (ordering_then p q)
+then_assoc Less p q = refl
+then_assoc Equal p q = refl
+then_assoc Greater p q = refl
+
+less_is : (a b : ℕ) → a < b → nat_cmp a b ≡ Less
+less_is a b lt = grind (arith, nat_tests)
+
+equal_is : (a b : ℕ) → a ≡ b → nat_cmp a b ≡ Equal
+equal_is a b same = grind (arith, nat_tests)
+
+more_is : (a b : ℕ) → b < a → nat_cmp a b ≡ Greater
+more_is a b gt = grind (arith, nat_tests)
+
+-- ---- numbers
+
+shifted_by : (c r s : ℕ) (o : Ordering) → MatchOrdering o (r < s) (r ≡ s) (s < r) → nat_cmp (c + r) (c + s) ≡ o
+shifted_by c r s Less h = less_is (c + r) (c + s) (omega arith)
+shifted_by c r s Equal h = equal_is (c + r) (c + s) (omega arith)
+shifted_by c r s Greater h = more_is (c + r) (c + s) (omega arith)
+
+joined_by : (a b r s p : ℕ) (o : Ordering) → MatchOrdering o (a < b) (a ≡ b) (b < a) → r < p → s < p → nat_cmp (a * p + r) (b * p + s) ≡ ordering_then o (nat_cmp r s)
+joined_by a b r s p Less h rp sp =
+    let more : (a + 1) * p ≤ b * p = mul-le (a + 1) p b p (omega arith) (omega arith) in
+    less_is (a * p + r) (b * p + s) (omega arith)
+joined_by a b r s p Equal h rp sp = ap (λ (x : ℕ). nat_cmp (x * p + r) (b * p + s)) h ∙ shifted_by (b * p) r s (nat_cmp r s) (ranks r s)
+joined_by a b r s p Greater h rp sp =
+    let more : (b + 1) * p ≤ a * p = mul-le (b + 1) p a p (omega arith) (omega arith) in
+    more_is (a * p + r) (b * p + s) (omega arith)
+
+positive : (k : ℕ) → 0 < 256 ^ k
+positive zero = omega arith
+positive (suc k) = rw (pow-suc 256 k) (omega (arith, positive k))
+
+byte_is : (k n : ℕ) → byte_at k n ≡ n / 256 ^ k % 256
+byte_is zero n = let whole : n ≡ n / 1 = omega arith in ap (λ (x : ℕ). x % 256) whole
+byte_is (suc k) n = refl
+
+rest_is : (k n : ℕ) → n % 256 ^ suc k ≡ (n / 256 ^ k % 256) * 256 ^ k + n % 256 ^ k
+rest_is k n = ap (λ (x : ℕ). n % x) (pow-suc 256 k ∙ mul_comm (256 ^ k) 256) ∙ mod-mul n (omega arith) (positive k)
+
+first_byte : (k m n : ℕ) → ordering_then (nat_cmp (byte_at k m) (byte_at k n)) (nat_cmp (m % 256 ^ k) (n % 256 ^ k)) ≡ nat_cmp (m % 256 ^ suc k) (n % 256 ^ suc k)
+first_byte k m n =
+    let p : 0 < 256 ^ k = positive k in
+    let a = m / 256 ^ k % 256 in
+    let b = n / 256 ^ k % 256 in
+    rw (byte_is k m, byte_is k n, rest_is k m, rest_is k n) (sym (joined_by a b (m % 256 ^ k) (n % 256 ^ k) (256 ^ k) (nat_cmp a b) (ranks a b) (omega arith) (omega arith)))
+
+numbers_by : (compare : List ℕ → List ℕ → Ordering) → IsByBytes compare → (k m n : ℕ) (r s : List ℕ)
+    → compare (bytes_high_first k m ++ r) (bytes_high_first k n ++ s) ≡ ordering_then (nat_cmp (m % 256 ^ k) (n % 256 ^ k)) (compare r s)
+numbers_by compare by zero m n r s =
+    let none : nat_cmp (m % 1) (n % 1) ≡ Equal = equal_is (m % 1) (n % 1) (omega arith) in
+    ap (λ (o : Ordering). ordering_then o (compare r s)) (sym none)
+numbers_by compare by (suc k) m n r s =
+    by (byte_at k m) (byte_at k n) (bytes_high_first k m ++ r) (bytes_high_first k n ++ s)
+    ∙ ap (λ (o : Ordering). ordering_then (nat_cmp (byte_at k m) (byte_at k n)) o) (numbers_by compare by k m n r s)
+    ∙ sym (then_assoc (nat_cmp (byte_at k m) (byte_at k n)) (nat_cmp (m % 256 ^ k) (n % 256 ^ k)) (compare r s))
+    ∙ ap (λ (o : Ordering). ordering_then o (compare r s)) (first_byte k m n)
+
+-- numbers of 64 bits
+pub numbers : (compare : List ℕ → List ℕ → Ordering) → IsByBytes compare → (m n : ℕ) (r s : List ℕ) → m < 2 ^ 64 → n < 2 ^ 64
+    → compare (to_be_bytes w64 m ++ r) (to_be_bytes w64 n ++ s) ≡ ordering_then (nat_cmp m n) (compare r s)
+numbers compare by m n r s m_fits n_fits =
+    let left : m % 18446744073709551616 ≡ m = omega arith in
+    let right : n % 18446744073709551616 ≡ n = omega arith in
+    numbers_by compare by 8 m n r s ∙ ap (λ (x : ℕ). ordering_then (nat_cmp x (n % 18446744073709551616)) (compare r s)) left ∙ ap (λ (x : ℕ). ordering_then (nat_cmp m x) (compare r s)) right
+
+pub turned_fits : (z : ℤ) → IsTrue (is_word z) → turned z < 2 ^ 64
+turned_fits (pos n) word = grind (arith, nat_tests)
+turned_fits (negsuc n) word = omega arith
+
+pub turned_cmp : (x y : ℤ) → IsTrue (is_word x) → IsTrue (is_word y) → nat_cmp (turned x) (turned y) ≡ int_cmp x y
+turned_cmp (pos m) (pos n) left right = grind (arith, nat_tests)
+turned_cmp (pos m) (negsuc n) left right = grind (arith, nat_tests)
+turned_cmp (negsuc m) (pos n) left right = grind (arith, nat_tests)
+turned_cmp (negsuc m) (negsuc n) left right = grind (arith, nat_tests)
+
+pub moments_cmp : (m n : ℕ) → nat_cmp m n ≡ int_cmp (pos m) (pos n)
+moments_cmp m n = grind (arith, nat_tests)
+
+-- ---- texts and bytes
+
+abbrev spelled_byte : Bool → ℕ → List ℕ → List ℕ
+spelled_byte nil b rest = cond nil (0 ∷ 255 ∷ rest) (b ∷ rest)
+
+less_by : (compare : List ℕ → List ℕ → Ordering) → IsByBytes compare → (nil : Bool) (y : ℕ) (rest r s : List ℕ) → eqb y 0 ≡ nil → compare (0 ∷ 0 ∷ r) (spelled_byte nil y rest ++ s) ≡ Less
+less_by compare by true y rest r s is = by 0 0 (0 ∷ r) (255 ∷ (rest ++ s)) ∙ by 0 255 r (rest ++ s)
+less_by compare by false y rest r s is =
+    let some : 0 < y = grind (arith, nat_tests) in
+    by 0 y (0 ∷ r) (rest ++ s) ∙ ap (λ (o : Ordering). ordering_then o (compare (0 ∷ r) (rest ++ s))) (less_is 0 y some)
+
+more_by : (compare : List ℕ → List ℕ → Ordering) → IsByBytes compare → (nil : Bool) (x : ℕ) (rest r s : List ℕ) → eqb x 0 ≡ nil → compare (spelled_byte nil x rest ++ r) (0 ∷ 0 ∷ s) ≡ Greater
+more_by compare by true x rest r s is = by 0 0 (255 ∷ (rest ++ r)) (0 ∷ s) ∙ by 255 0 (rest ++ r) s
+more_by compare by false x rest r s is =
+    let some : 0 < x = grind (arith, nat_tests) in
+    by x 0 (rest ++ r) (0 ∷ s) ∙ ap (λ (o : Ordering). ordering_then o (compare (rest ++ r) (0 ∷ s))) (more_is x 0 some)
+
+both_by : (compare : List ℕ → List ℕ → Ordering) → IsByBytes compare → (zero_x zero_y : Bool) (x y : ℕ) (xs ys r s : List ℕ) → eqb x 0 ≡ zero_x → eqb y 0 ≡ zero_y
+    → compare (spelled_byte zero_x x xs ++ r) (spelled_byte zero_y y ys ++ s) ≡ ordering_then (nat_cmp x y) (compare (xs ++ r) (ys ++ s))
+both_by compare by true true x y xs ys r s is_x is_y =
+    let same : x ≡ y = grind (arith, nat_tests) in
+    by 0 0 (255 ∷ (xs ++ r)) (255 ∷ (ys ++ s)) ∙ by 255 255 (xs ++ r) (ys ++ s) ∙ ap (λ (o : Ordering). ordering_then o (compare (xs ++ r) (ys ++ s))) (sym (equal_is x y same))
+both_by compare by true false x y xs ys r s is_x is_y =
+    let less : x < y = grind (arith, nat_tests) in
+    let some : 0 < y = grind (arith, nat_tests) in
+    by 0 y (255 ∷ (xs ++ r)) (ys ++ s) ∙ ap (λ (o : Ordering). ordering_then o (compare (255 ∷ (xs ++ r)) (ys ++ s))) (less_is 0 y some)
+    ∙ ap (λ (o : Ordering). ordering_then o (compare (xs ++ r) (ys ++ s))) (sym (less_is x y less))
+both_by compare by false true x y xs ys r s is_x is_y =
+    let more : y < x = grind (arith, nat_tests) in
+    let some : 0 < x = grind (arith, nat_tests) in
+    by x 0 (xs ++ r) (255 ∷ (ys ++ s)) ∙ ap (λ (o : Ordering). ordering_then o (compare (xs ++ r) (255 ∷ (ys ++ s)))) (more_is x 0 some)
+    ∙ ap (λ (o : Ordering). ordering_then o (compare (xs ++ r) (ys ++ s))) (sym (more_is x y more))
+both_by compare by false false x y xs ys r s is_x is_y = by x y (xs ++ r) (ys ++ s)
+
+pub texts : (compare : List ℕ → List ℕ → Ordering) → IsByBytes compare → (xs ys r s : List ℕ) → compare (escaped xs ++ r) (escaped ys ++ s) ≡ ordering_then (slice_cmp nat_cmp xs ys) (compare r s)
+unfolding escaped
+texts compare by [] [] r s = by 0 0 (0 ∷ r) (0 ∷ s) ∙ by 0 0 r s
+texts compare by [] (y ∷ ys) r s = less_by compare by (eqb y 0) y (escaped ys) r s refl
+texts compare by (x ∷ xs) [] r s = more_by compare by (eqb x 0) x (escaped xs) r s refl
+texts compare by (x ∷ xs) (y ∷ ys) r s =
+    both_by compare by (eqb x 0) (eqb y 0) x y (escaped xs) (escaped ys) r s refl refl
+    ∙ ap (λ (o : Ordering). ordering_then (nat_cmp x y) o) (texts compare by xs ys r s)
+    ∙ sym (then_assoc (nat_cmp x y) (slice_cmp nat_cmp xs ys) (compare r s))
