@@ -11,8 +11,9 @@ mod view;
 mod writer;
 
 pub use block::Block;
-pub use fault::BlockError;
+pub use fault::{BlockError, Fault};
 pub use laws::block_laws;
+pub use reading::{LONGEST_BLOCK, bytes_of, record_of, u32_at, u64_at};
 pub use view::RecView;
 pub use writer::{Added, BlockWriter};
 

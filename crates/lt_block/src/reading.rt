@@ -14,7 +14,8 @@ pub const LONGEST_BLOCK: usize = 65_536;
 /// The fewest bytes of a record.
 const SHORTEST_RECORD: usize = 28;
 
-fn u32_at(at: u64, bytes: &[u8]) -> Result<(u32, &[u8]), Fault>
+/// A number of four bytes, the highest first, and the bytes after it. Takes no memory.
+pub fn u32_at(at: u64, bytes: &[u8]) -> Result<(u32, &[u8]), Fault>
     ensures exact { Reads (λ x. (x.0, x.1.now)) result (number_at w32 at bytes.now) }
     ensures len { IfOk result (λ x. length x.1.now + 4 ≡ length bytes.now) }
 {
@@ -24,7 +25,8 @@ fn u32_at(at: u64, bytes: &[u8]) -> Result<(u32, &[u8]), Fault>
     }
 }
 
-fn u64_at(at: u64, bytes: &[u8]) -> Result<(u64, &[u8]), Fault>
+/// A number of eight bytes, the highest first, and the bytes after it. Takes no memory.
+pub fn u64_at(at: u64, bytes: &[u8]) -> Result<(u64, &[u8]), Fault>
     ensures exact { Reads (λ x. (x.0, x.1.now)) result (number_at w64 at bytes.now) }
     ensures len { IfOk result (λ x. length x.1.now + 8 ≡ length bytes.now) }
 {
@@ -34,7 +36,8 @@ fn u64_at(at: u64, bytes: &[u8]) -> Result<(u64, &[u8]), Fault>
     }
 }
 
-fn bytes_of(n: usize, at: u64, bytes: &[u8]) -> Result<(&[u8], &[u8]), Fault>
+/// So many bytes, and those after them. Takes no memory.
+pub fn bytes_of(n: usize, at: u64, bytes: &[u8]) -> Result<(&[u8], &[u8]), Fault>
     ensures exact { Reads (λ x. (x.0.now, x.1.now)) result (bytes_at n at bytes.now) }
     ensures front_len { IfOk result (λ x. length x.0.now ≡ n) }
     ensures len { IfOk result (λ x. length x.1.now + n ≡ length bytes.now) }

@@ -1,20 +1,12 @@
 -- The tablets of a front, as a closure.
-use Rattle.std.proofs.Common.{◌≡◌, ◌≢◌, ℕ, suc, zero, ◌+◌, ◌<◌, ◌≤◌, Bool, true, List, [], ◌∷◌, length, take, get_or, nat_eq, refl, sym, ap, ◌∙◌, inl, inr, arith, eq-eqb}
-use Rattle.std.specs.List.Sorted.{IsPermutation, IsSorted}
-use Rattle.std.specs.Ordering.{nat_cmp}
-use Rattle.std.proofs.lemmas.List.{get_or-take, length-take-le}
-use Rattle.std.proofs.lemmas.List.Sorted.{list_any-IsPermutation, IsNonDecreasingBy-from_sort}
-use Rattle.std.proofs.lemmas.Map.Keys.{IsDistinct-IsPermutation, IsStrictlyIncreasing-from_distinct}
-use Rattle.std.proofs.lemmas.Bool.{cases_lt, cases_Bool, eqb-true, ne_eqb, true≢false}
+use Rattle.std.proofs.Common.{◌≡◌, ◌≢◌, ℕ, suc, zero, ◌+◌, ◌<◌, ◌≤◌, Bool, true, List, [], ◌∷◌, length, take, get_or, nat_eq, refl, sym, ap, ◌∙◌, inl, inr, arith}
+use Rattle.std.specs.List.Sorted.{IsPermutation, IsStrictlyIncreasing}
+use Rattle.std.proofs.lemmas.List.{get_or-take, length-take, length-take-le}
+use Rattle.std.proofs.lemmas.List.Sorted.{list_any-IsPermutation}
+use Rattle.std.proofs.lemmas.Bool.{cases_lt}
 use Rattle.lt_deps.specs.Closure.{has, IsClosed, IsClosure}
-use Rattle.lt_deps.specs.Kept.{IsAt, Holds}
-use Rattle.lt_deps.proofs.Rows.{has_at, at_has, distinct_from_places}
-
-flips : (x y : ℕ) → nat_eq x y ≡ nat_eq y x
-flips x y = elim (cases_Bool (nat_eq x y)) [
-  | inl e ↦ e ∙ sym (eq-eqb y x (sym (eqb-true x y e)))
-  | inr e ↦ e ∙ sym (ne_eqb y x (λ s. true≢false (sym (eq-eqb x y (sym s)) ∙ e)))
-]
+use Rattle.lt_deps.specs.Kept.{IsAt, Holds, AreDistinct}
+use Rattle.lt_deps.proofs.Rows.{has_at, at_has}
 
 module _ (ts ahead : List ℕ) (above : ℕ) (notes : List ℕ) (k : Holds ts ahead above notes) where
   -- where a set is closed, it has with a place's tablet those of all places below
@@ -35,7 +27,7 @@ module _ (ts ahead : List ℕ) (above : ℕ) (notes : List ℕ) (k : Holds ts ah
   module _ (place count t : ℕ) (found : List ℕ) (paired : length ahead ≡ length ts) (held : place < length ts) (here : get_or ts place 0 ≡ t)
       (within : count ≤ length ts) (holds : place < count) (closed : (j : ℕ) → j < count → j + get_or ahead j 0 < count)
       (least : (p : ℕ → Bool) → ((i : ℕ) → i ≤ place → p i ≡ true) → ((i j : ℕ) → j < length ahead → p j ≡ true → i ≤ j + get_or ahead j 0 → p i ≡ true) → (i : ℕ) → i < count → p i ≡ true)
-      (moved : IsPermutation (take count ts) found) (sorted : IsSorted nat_cmp found) where
+      (moved : IsPermutation (take count ts) found) (rises : IsStrictlyIncreasing found) where
     same : (u : ℕ) → has (take count ts) u ≡ has found u
     same u = list_any-IsPermutation (λ held. nat_eq held u) (take count ts) found moved
 
@@ -80,12 +72,15 @@ module _ (ts ahead : List ℕ) (above : ℕ) (notes : List ℕ) (k : Holds ts ah
           (λ j le. low_in other place j shut held (ap (has other) here ∙ has_t) le)
           (λ low j h p le. up_in other low j shut (omega arith) p le)
           i.0 i.1;
-      rising =
-          let long = length-take-le count ts within in
-          IsStrictlyIncreasing-from_distinct found (IsNonDecreasingBy-from_sort (λ x. x) found sorted)
-          (IsDistinct-IsPermutation nat_eq flips (take count ts) found moved
-          (distinct_from_places (take count ts) (λ i j h w e. k.distinct i j h (omega arith) (sym (get_or-take count ts i 0 (omega arith)) ∙ e ∙ get_or-take count ts j 0 (omega arith)))));
+      rising = rises;
     }
+
+pub front_distinct : (ts : List ℕ) (count : ℕ) → AreDistinct ts → AreDistinct (take count ts)
+front_distinct ts count distinct i j h w e =
+    let n = length-take count ts in
+    let v : j < count = omega arith in
+    let u : i < count = omega arith in
+    distinct i j h (omega arith) (sym (get_or-take count ts i 0 u) ∙ e ∙ get_or-take count ts j 0 v)
 
 -- a tablet without rows goes out alone
 pub alone : (ts ahead : List ℕ) (above t : ℕ) (notes : List ℕ) → Holds ts ahead above notes → ((i : ℕ) → i < length ts → get_or ts i 0 ≢ t) → IsClosure notes t (t ∷ [])

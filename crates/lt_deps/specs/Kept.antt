@@ -14,6 +14,13 @@ pub record IsWithin (tablets ahead : List ℕ) (above : ℕ) : Type 0 where
   pub within : (j : ℕ) → j < length ahead → j + slice_index ahead j < length ahead
   pub last : above ≤ length tablets
 
+abbrev pub AreDistinct : List ℕ → Type 0
+AreDistinct tablets = (i j : ℕ) → i < j → j < length tablets → slice_index tablets i ≢ slice_index tablets j
+
+-- no number is above the greatest
+abbrev pub AreUpTo : List ℕ → ℕ → Type 0
+AreUpTo tablets greatest = (k : ℕ) → k < length tablets → slice_index tablets k ≤ greatest
+
 -- the row went to the tablet at this place
 pub record IsAt (tablets notes : List ℕ) (row place : ℕ) : Type 0 where
   pub noted : row < length notes
@@ -23,7 +30,7 @@ pub record IsAt (tablets notes : List ℕ) (row place : ℕ) : Type 0 where
 -- tablets, distances and a last row's tablet that stand for these notes
 pub record Holds (tablets ahead : List ℕ) (above : ℕ) (notes : List ℕ) : Type 0 where
   -- the tablets are those of the rows, in the order of their first rows
-  pub distinct : (i j : ℕ) → i < j → j < length tablets → slice_index tablets i ≢ slice_index tablets j
+  pub distinct : AreDistinct tablets
   pub placed : (row : ℕ) → row < length notes → (place : ℕ) × IsAt tablets notes row place
   pub used : (place : ℕ) → place < length tablets → (row : ℕ) × IsAt tablets notes row place
   pub older : (row place low : ℕ) → IsAt tablets notes row place → low ≤ place → (before : ℕ) × (before ≤ row) × IsAt tablets notes before low

@@ -2,7 +2,7 @@ ghost use Rattle.std.specs.Prelude.{◌≡◌, ℕ, ◌+◌, ◌<◌, ◌≤◌,
 ghost use Rattle.lt_deps.specs.Closure.{has, IsClosed, IsClosure};
 ghost use Rattle.lt_deps.specs.Kept.{StandsFor};
 
-use crate::places::{front_in, front_of, leave_front, place_of};
+use crate::places::{front_in, front_of, leave_front, place_of, rising};
 use lt_rec::{NoMemory, TabletId};
 use std::alloc::Global;
 use std::marker::Model;
@@ -16,18 +16,19 @@ pub struct Deps {
     ahead: Vec<usize>,
     last: usize,
     spare: usize,
+    greatest: u64,
 }
 
 impl Model for Deps {
     ghost use Rattle.std.specs.Prelude.{◌+◌, ◌≤◌};
     ghost use Rattle.std.specs.Vec.{vec_capacity, vec_len};
-    ghost use Rattle.lt_deps.specs.Kept.{Kept, IsWithin};
+    ghost use Rattle.lt_deps.specs.Kept.{Kept, IsWithin, AreUpTo};
 
     ghost Value = { Kept };
 
     ghost view = { λ d. record { tablets = d.tablets.items; ahead = d.ahead.items; last = d.last; spare = d.spare } };
 
-    ghost invariant = { λ d. IsWithin d.tablets.items d.ahead.items d.last × (vec_len d.tablets + d.spare ≤ vec_capacity d.tablets) × (vec_len d.ahead + d.spare ≤ vec_capacity d.ahead) };
+    ghost invariant = { λ d. IsWithin d.tablets.items d.ahead.items d.last × (vec_len d.tablets + d.spare ≤ vec_capacity d.tablets) × (vec_len d.ahead + d.spare ≤ vec_capacity d.ahead) × AreUpTo d.tablets.items d.greatest };
 }
 
 impl Deps {
@@ -41,6 +42,7 @@ impl Deps {
             ahead: Vec::new(alloc),
             last: 0,
             spare: 0,
+            greatest: 0,
         }
     }
 
@@ -66,7 +68,7 @@ impl Deps {
         ensures noted { (notes : List ℕ) → StandsFor self.old notes → StandsFor self.new (notes ++ tablet ∷ []) }
     {
         self.spare -= 1;
-        match place_of(self.tablets.as_slice(), tablet) {
+        match place_of(self.tablets.as_slice(), self.greatest, tablet) {
             Some(place) => {
                 let ahead = self.ahead[place].max(self.last.saturating_sub(place + 1));
                 self.ahead[place] = ahead;
@@ -78,6 +80,7 @@ impl Deps {
                     (Ok(()), Ok(())) => {}
                     _ => unreachable!(),
                 }
+                self.greatest = self.greatest.max(tablet.0);
                 self.last = place + 1;
             }
         }
@@ -89,13 +92,12 @@ impl Deps {
         ensures ok { IfOk result (λ found. (notes : List ℕ) → StandsFor self.now notes → IsClosure notes tablet found.items) }
     {
         let alloc = *self.tablets.allocator();
-        let Some(place) = place_of(self.tablets.as_slice(), tablet) else {
+        let Some(place) = place_of(self.tablets.as_slice(), self.greatest, tablet) else {
             return Ok(Vec::from_slice(alloc, &[tablet])?);
         };
         let count = front_of(self.ahead.as_slice(), place);
         let (front, _) = self.tablets.as_slice().split_at(count);
-        let mut found = Vec::from_slice(alloc, front)?;
-        found.sort()?;
+        let found = rising(alloc, front)?;
         Ok(found)
     }
 

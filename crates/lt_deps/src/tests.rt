@@ -1,36 +1,56 @@
 use super::*;
 use lt_rec::TabletId;
+use std::alloc::Global;
 use std::test::Fail;
 
-fn note_all(deps: &mut Deps, tablets: &[TabletId]) -> Result<(), Fail> {
+fn note_all(deps: &mut Deps, tablets: &[u64]) -> Result<(), Fail> {
     for tablet in tablets {
         deps.ready()?;
-        deps.note(*tablet);
+        deps.note(TabletId(*tablet));
     }
     Ok(())
+}
+
+fn ids(alloc: Global, numbers: &[u64]) -> Result<Vec<TabletId>, Fail> {
+    let mut ids = Vec::new(alloc);
+    for number in numbers {
+        ids.push(TabletId(*number))?;
+    }
+    Ok(ids)
 }
 
 #[test]
 fn tablets_go_out_with_those_of_the_rows_before(rt: HostRuntime) -> Result<(), Fail> {
     let mut deps = Deps::new(rt.alloc());
-    note_all(&mut deps, &[TabletId(0), TabletId(1), TabletId(2)])?;
-    assert_eq!(rt;
-        deps.closure(TabletId(1))?.as_slice(),
-        [TabletId(0), TabletId(1)].as_slice(),
-        "the second of three"
-    );
-    note_all(&mut deps, &[TabletId(1)])?;
-    assert_eq!(rt;
-        deps.closure(TabletId(1))?.as_slice(),
-        [TabletId(0), TabletId(1), TabletId(2)].as_slice(),
-        "after one more row for it"
-    );
-    deps.gone(&[TabletId(0), TabletId(1), TabletId(2)]);
-    note_all(&mut deps, &[TabletId(3)])?;
-    assert_eq!(rt;
-        deps.closure(TabletId(3))?.as_slice(),
-        [TabletId(3)].as_slice(),
-        "after the others are gone"
-    );
+    let cases: [(&str, &[u64], &[u64], u64, &[u64]); 6] = [
+        ("no rows", &[], &[], 4, &[4]),
+        ("the second of three", &[0, 1, 2], &[], 1, &[0, 1]),
+        ("after one more row for it", &[1], &[], 1, &[0, 1, 2]),
+        ("after the others are gone", &[3], &[0, 1, 2], 3, &[3]),
+        (
+            "numbers with a gap, out of order",
+            &[9, 5, 9],
+            &[],
+            5,
+            &[3, 5, 9],
+        ),
+        (
+            "a lesser number, and one that is gone",
+            &[0, 0, 7],
+            &[3, 5, 9],
+            7,
+            &[0, 7],
+        ),
+    ];
+    for (name, rows, gone, tablet, wanted) in cases {
+        deps.gone(ids(rt.alloc(), gone)?.as_slice());
+        note_all(&mut deps, rows)?;
+        let found = deps.closure(TabletId(tablet))?;
+        assert_eq!(rt;
+            found.as_slice(),
+            ids(rt.alloc(), wanted)?.as_slice(),
+            "{name}"
+        );
+    }
     Ok(())
 }

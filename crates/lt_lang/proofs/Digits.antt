@@ -2,7 +2,7 @@
 use Rattle.std.proofs.Common.{◌≡◌, ℕ, zero, suc, ◌+◌, ◌-◌, ◌*◌, ◌^◌, ◌<◌, ◌≤◌, Bool, true, false, ◌&&◌, List, [], ◌∷◌, refl, ap, arith, Option, Some, None, add-one, lit<, leb-true}
 use Rattle.std.specs.Prelude.{nat_le, if◌then◌else◌}
 use Rattle.std.proofs.Math.Nat.{pow-succ', pow-le-pow_right}
-use Rattle.lt_lang.specs.Grammar.{is_digit}
+use Rattle.lt_lang.specs.Numbers.{is_digit}
 use Rattle.lt_lang.specs.Reading.{digit_at, digits_at}
 
 -- what is found where the test says so

@@ -2,5 +2,19 @@ mod Cutting
 mod Digits
 mod Taken
 mod Spelled
-mod LineParts
 mod Quoted
+mod Utf8
+mod HexDigits
+mod Pieces
+mod NameBytes
+mod TextLoop
+mod LiteralLoop
+mod WordForms
+mod Gaps
+mod Understood
+mod Answered
+mod Spoken
+mod ScanParts
+mod Wanted
+mod Stopped
+pub mod Exactly

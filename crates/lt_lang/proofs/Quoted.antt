@@ -4,8 +4,7 @@ use Rattle.std.specs.Prelude.{nat_eq, nat_le, not}
 use Rattle.std.specs.List.{list_all, flat_map}
 use Rattle.std.specs.Cmp.{first_so, second_so}
 use Rattle.std.proofs.lemmas.Bool.{eqb-true, leb-true, le-ltb}
-use Rattle.lt_lang.specs.Grammar.{is_plain}
-use Rattle.lt_lang.specs.Texts.{quoted_byte}
+use Rattle.lt_lang.specs.Texts.{is_plain, quoted_byte}
 
 not_so : (t : Bool) → not t ≡ true → t ≡ false
 not_so true e = cc

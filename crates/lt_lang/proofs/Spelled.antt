@@ -5,9 +5,8 @@ use Rattle.std.specs.List.{list_all}
 use Rattle.std.specs.Cmp.{first_so, second_so}
 use Rattle.std.proofs.lemmas.Bool.{eqb-true, ltb-true, leb-true, lt-ltb, le-leb}
 use Rattle.std.proofs.lemmas.Option.{cond_some}
-use Rattle.lt_schema.specs.Values.{is_int32, is_time}
-use Rattle.lt_lang.specs.Grammar.{is_digit, value_from, IsCount, IsMoment, IsUnsigned, IsNegated, IsInteger}
-use Rattle.lt_lang.specs.Reading.{digit_at, digits_at, count_at, moment_at, negated_at, unsigned_at, integer_at, device_at, time_at}
+use Rattle.lt_lang.specs.Numbers.{is_digit, value_from, IsCount, IsMoment, IsUnsigned, IsNegated, IsInteger}
+use Rattle.lt_lang.specs.Reading.{digit_at, digits_at, count_at, moment_at, negated_at, unsigned_at, integer_at}
 use Rattle.lt_lang.proofs.Digits.{digits_at-some, digits_at-none}
 use Rattle.lt_lang.proofs.Taken.{Takes, both, joined}
 
@@ -185,33 +184,3 @@ negated_first bytes x rest is e =
 pub integer_at-only : (bytes : List ℕ) (x : ℤ) (rest : List ℕ) → IsInteger bytes x → digit_at rest ≡ None → integer_at (bytes ++ rest) ≡ Some (x, rest)
 integer_at-only bytes x rest (inl is) e = unsigned_first bytes x rest is e
 integer_at-only bytes x rest (inr is) e = negated_first bytes x rest is e
-
--- an integer that passes a test
-pub record Passing (test : ℤ → Bool) (bytes : List ℕ) (p : ℤ × List ℕ) : Type 0 where
-  pub taken : Takes (λ part. IsInteger part p.0) bytes p.1
-  pub passes : test p.0 ≡ true
-
-passing : (test : ℤ → Bool) (bytes : List ℕ) (x p : ℤ × List ℕ) → integer_at bytes ≡ Some x → (if test x.0 then Some x else None) ≡ Some p → Passing test bytes p
-passing test bytes x p found next =
-    let h = cond_some {A = ℤ × List ℕ} (test x.0) x p next in record {
-      taken = integer_at-read bytes p (found ∙ ap Some h.1);
-      passes = sym (ap (λ (q : ℤ × List ℕ). test q.0) h.1) ∙ h.0;
-    }
-
-pub device_at-read : (bytes : List ℕ) (p : ℤ × List ℕ) → device_at bytes ≡ Some p → Passing is_int32 bytes p
-unfolding device_at
-device_at-read bytes p e = both (integer_at bytes) _ p e (λ x found next. passing is_int32 bytes x p found next)
-
-pub time_at-read : (bytes : List ℕ) (p : ℤ × List ℕ) → time_at bytes ≡ Some p → Passing is_time bytes p
-unfolding time_at
-time_at-read bytes p e = both (integer_at bytes) _ p e (λ x found next. passing is_time bytes x p found next)
-
-pub device_at-only : (bytes : List ℕ) (x : ℤ) (rest : List ℕ) → IsInteger bytes x → is_int32 x ≡ true → digit_at rest ≡ None → device_at (bytes ++ rest) ≡ Some (x, rest)
-unfolding device_at
-device_at-only bytes x rest is within e =
-    joined (integer_at (bytes ++ rest)) (λ x. if is_int32 x.0 then Some x else None) (x, rest) (x, rest) (integer_at-only bytes x rest is e) (rw within refl)
-
-pub time_at-only : (bytes : List ℕ) (x : ℤ) (rest : List ℕ) → IsInteger bytes x → is_time x ≡ true → digit_at rest ≡ None → time_at (bytes ++ rest) ≡ Some (x, rest)
-unfolding time_at
-time_at-only bytes x rest is within e =
-    joined (integer_at (bytes ++ rest)) (λ x. if is_time x.0 then Some x else None) (x, rest) (x, rest) (integer_at-only bytes x rest is e) (rw within refl)

@@ -1,5 +1,8 @@
 pub mod Lines
-pub mod Grammar
+pub mod Numbers
 pub mod Reading
-pub mod Table
 pub mod Texts
+pub mod Tokens
+pub mod Literals
+pub mod Sentences
+pub mod Parsing

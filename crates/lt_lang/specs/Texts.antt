@@ -1,5 +1,5 @@
 -- The texts of replies, of a client's block and of the last line. Each line ends with LF.
-use Rattle.std.specs.Prelude.{ℕ, ◌+◌, ◌/◌, ◌%◌, Bool, true, false, ◌||◌, ◌==◌, nat_lt, List, [], ◌∷◌, ◌++◌, length, Option, Some, None, if◌then◌else◌, codes, decimal}
+use Rattle.std.specs.Prelude.{ℕ, ◌+◌, ◌/◌, ◌%◌, Bool, true, false, not, ◌&&◌, ◌||◌, ◌==◌, nat_le, nat_lt, List, [], ◌∷◌, ◌++◌, length, Option, Some, None, if◌then◌else◌, codes, decimal}
 use Rattle.std.specs.Fmt.{signed_decimal}
 use Rattle.std.specs.List.{flat_map}
 use Rattle.lt_rec.specs.declared.listed.Listed.{Listed}
@@ -27,6 +27,10 @@ hex_digit n = if nat_lt n 10 then 48 + n else 87 + n
 -- two lower-case digits
 abbrev pub hex_byte : ℕ → List ℕ
 hex_byte b = hex_digit (b / 16) ∷ hex_digit (b % 16) ∷ []
+
+-- what may stand as it is: from 20 to 7e in hexadecimal, but neither " nor \
+abbrev pub is_plain : ℕ → Bool
+is_plain b = nat_le 32 b && nat_le b 126 && not (b == 34) && not (b == 92)
 
 -- " and \ stand behind a \, and bytes below 20 in hexadecimal and 7f stand by their digits
 abbrev pub quoted_byte : ℕ → List ℕ

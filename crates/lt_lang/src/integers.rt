@@ -1,6 +1,9 @@
 //! Integers at the front of a line: an optional -, and 1 to 19 digits.
 ghost use Rattle.std.specs.Prelude.{◌≡◌, ◌^◌, ◌≤◌, neg_ℤ, pos, SomeIff};
-ghost use Rattle.lt_lang.specs.Reading.{Finds, count_at, device_at, digit_at, digits_at, integer_at, moment_at, negated_at, time_at, unsigned_at};
+ghost use Rattle.lt_lang.specs.Parsing.{count_of, integer_of, moment_of};
+ghost use Rattle.lt_lang.specs.Reading.{Finds, count_at, digit_at, digits_at, integer_at, moment_at, negated_at, unsigned_at};
+
+use crate::tokens::after;
 
 const MOMENTS: u64 = 1 << 62;
 
@@ -37,7 +40,7 @@ fn count_at(bytes: &[u8]) -> Option<(u64, &[u8])>
 }
 
 #[tactic(auto, unfolding(crate::specs::Reading::moment_at))]
-pub fn moment_at(bytes: &[u8]) -> Option<(u64, &[u8])>
+fn moment_at(bytes: &[u8]) -> Option<(u64, &[u8])>
     ensures { Finds (λ x. (x.0, x.1.now)) result (moment_at bytes.now) }
 {
     let (moment, rest) = count_at(bytes)?;
@@ -73,7 +76,7 @@ fn unsigned_at(bytes: &[u8]) -> Option<(i64, &[u8])>
 }
 
 #[tactic(auto, unfolding(crate::specs::Reading::integer_at))]
-pub fn integer_at(bytes: &[u8]) -> Option<(i64, &[u8])>
+fn integer_at(bytes: &[u8]) -> Option<(i64, &[u8])>
     ensures { Finds (λ x. (x.0, x.1.now)) result (integer_at bytes.now) }
 {
     match bytes.split_first() {
@@ -82,26 +85,35 @@ pub fn integer_at(bytes: &[u8]) -> Option<(i64, &[u8])>
     }
 }
 
-#[tactic(auto, unfolding(crate::specs::Reading::device_at))]
-pub fn device_at(bytes: &[u8]) -> Option<(i64, &[u8])>
-    ensures { Finds (λ x. (x.0, x.1.now)) result (device_at bytes.now) }
+/// A word that is a number of 1 to 19 digits.
+#[tactic(auto, unfolding(crate::specs::Parsing::count_of))]
+pub fn count_of(word: &[u8]) -> Option<u64>
+    ensures { Finds (λ x. x) result (count_of word.now) }
 {
-    let (device, rest) = integer_at(bytes)?;
-    if device >= i32::MIN as i64 && device <= i32::MAX as i64 {
-        Some((device, rest))
-    } else {
-        None
+    match count_at(word) {
+        Some((count, [])) => Some(count),
+        _ => None,
     }
 }
 
-#[tactic(auto, unfolding(crate::specs::Reading::time_at))]
-pub fn time_at(bytes: &[u8]) -> Option<(i64, &[u8])>
-    ensures { Finds (λ x. (x.0, x.1.now)) result (time_at bytes.now) }
+/// A word that is an integer within 64 bits, signed.
+#[tactic(auto, unfolding(crate::specs::Parsing::integer_of))]
+pub fn integer_of(word: &[u8]) -> Option<i64>
+    ensures { Finds (λ x. x) result (integer_of word.now) }
 {
-    let (time, rest) = integer_at(bytes)?;
-    if time >= 0 && time < MOMENTS as i64 {
-        Some((time, rest))
-    } else {
-        None
+    match integer_at(word) {
+        Some((integer, [])) => Some(integer),
+        _ => None,
+    }
+}
+
+/// A word that is a @ and a number below 2^62.
+#[tactic(auto, unfolding(crate::specs::Parsing::moment_of))]
+pub fn moment_of(word: &[u8]) -> Option<u64>
+    ensures { Finds (λ x. x) result (moment_of word.now) }
+{
+    match moment_at(after(word, b"@")?) {
+        Some((moment, [])) => Some(moment),
+        _ => None,
     }
 }

@@ -4,45 +4,6 @@ use lt_schema::{AlterError, Row, RowFault, Rows, Value};
 use std::alloc::Global;
 use std::test::Fail;
 
-fn is_insert(line: &Line, moment: u64, net: &str, numbers: [i64; 3]) -> bool {
-    let Line::Command {
-        client,
-        moment: Some(at),
-        command: Command::Insert { row },
-    } = line
-    else {
-        return false;
-    };
-    let [
-        Value::Text(text),
-        Value::Int(device),
-        Value::Int(time),
-        Value::Int(amount),
-    ] = row.as_slice()
-    else {
-        return false;
-    };
-    client.as_text() == "a"
-        && *at == moment
-        && text.as_text() == net
-        && [*device, *time, *amount] == numbers
-}
-
-fn is_whole_scan(line: &Line) -> bool {
-    let Line::Command {
-        client,
-        moment: None,
-        command: Command::Scan { query },
-    } = line
-    else {
-        return false;
-    };
-    client.as_text() == "a"
-        && query.lo.is_none()
-        && query.hi.is_none()
-        && (query.from, query.to, query.down, query.limit) == (0, 4611686018427387903, false, 1000)
-}
-
 #[test]
 fn lines_end_with_lf_and_lose_one_cr(rt: HostRuntime) {
     for (input, line, rest) in [
@@ -63,103 +24,6 @@ fn lines_end_with_lf_and_lose_one_cr(rt: HostRuntime) {
         );
     }
     assert_eq!(rt; next_line(b""), None, "no input");
-}
-
-static INSERTS: [(&str, u64, &str, [i64; 3]); 5] = [
-    (
-        "a: @1500000000000000 insert \"x\" 1 1500000000000000 10",
-        1500000000000000,
-        "x",
-        [1, 1500000000000000, 10],
-    ),
-    ("a: @0 insert \"\" -0 0 -0", 0, "", [0, 0, 0]),
-    (
-        "a: @4611686018427387903 insert \" ~#!\" 2147483647 4611686018427387903 9223372036854775807",
-        4611686018427387903,
-        " ~#!",
-        [2147483647, 4611686018427387903, 9223372036854775807],
-    ),
-    (
-        "a: @0000000000000000007 insert \"a: scan\" -2147483648 007 -9223372036854775808",
-        7,
-        "a: scan",
-        [-2147483648, 7, -9223372036854775808],
-    ),
-    (
-        "a: @1 insert \"0123456789012345678901234567890123456789012345678901234567890123\" 1 2 3",
-        1,
-        "0123456789012345678901234567890123456789012345678901234567890123",
-        [1, 2, 3],
-    ),
-];
-
-#[test]
-fn inserts_are_read_with_their_numbers(rt: HostRuntime) -> Result<(), Fail> {
-    for (line, moment, net, numbers) in INSERTS.iter() {
-        let read = parse_line(rt.alloc(), line.as_bytes())?;
-        let same = read
-            .as_ref()
-            .is_some_and(|found| is_insert(found, *moment, net, *numbers));
-        assert!(rt; same, "{line:?} gave {read:?}");
-    }
-    Ok(())
-}
-
-static OTHER_FORMS: [&str; 37] = [
-    "",
-    "#",
-    "a:scan",
-    "a: scan ",
-    " a: scan",
-    "a:  scan",
-    "b: scan",
-    "a: scan\r",
-    "a: @1 scan",
-    "a: insert \"x\" 1 2 3",
-    "a: @ insert \"x\" 1 2 3",
-    "a: @4611686018427387904 insert \"x\" 1 2 3",
-    "a: @00000000000000000001 insert \"x\" 1 2 3",
-    "a: @-1 insert \"x\" 1 2 3",
-    "a: @1  insert \"x\" 1 2 3",
-    "a: @1 insert x 1 2 3",
-    "a: @1 insert \"x 1 2 3",
-    "a: @1 insert \"x\"1 2 3",
-    "a: @1 insert \"x\\\"\" 1 2 3",
-    "a: @1 insert \"\u{7f}\" 1 2 3",
-    "a: @1 insert \"\u{1f}\" 1 2 3",
-    "a: @1 insert \"\u{e9}\" 1 2 3",
-    "a: @1 insert \"x\" 2147483648 2 3",
-    "a: @1 insert \"x\" -2147483649 2 3",
-    "a: @1 insert \"x\" +1 2 3",
-    "a: @1 insert \"x\" - 2 3",
-    "a: @1 insert \"x\" 1 -1 3",
-    "a: @1 insert \"x\" 1 4611686018427387904 3",
-    "a: @1 insert \"x\" 1 2 9223372036854775808",
-    "a: @1 insert \"x\" 1 2 -9223372036854775809",
-    "a: @1 insert \"x\" 1 2 00000000000000000001",
-    "a: @1 insert \"x\" 1 2",
-    "a: @1 insert \"x\" 1 2 ",
-    "a: @1 insert \"x\" 1 2 3 ",
-    "a: @1 insert \"x\" 1 2 3\r",
-    "a: @1 insert \"x\" 1 2 3 4",
-    "a: @1 insert \"01234567890123456789012345678901234567890123456789012345678901234\" 1 2 3",
-];
-
-#[test]
-fn other_forms_are_no_lines(rt: HostRuntime) -> Result<(), Fail> {
-    let read = parse_line(rt.alloc(), b"a: scan")?;
-    assert!(rt;
-        read.as_ref().is_some_and(|found| is_whole_scan(found)),
-        "the scan gave {read:?}"
-    );
-    for line in OTHER_FORMS.iter() {
-        let line = *line;
-        let read = parse_line(rt.alloc(), line.as_bytes())?;
-        assert!(rt; read.is_none(), "{line:?} gave {read:?}");
-    }
-    one_line();
-    lawful_rows();
-    Ok(())
 }
 
 const ONE_ROW: &str =
@@ -333,78 +197,44 @@ fn a_listing_has_a_line_a_tablet(rt: HostRuntime) -> Result<(), Fail> {
     Ok(())
 }
 
+static ROW_FAULTS: [(RowFault, &str); 4] = [
+    (RowFault::Arity { want: 4, got: 5 }, "bad row arity 4 5\n"),
+    (RowFault::WrongKind { column: 2 }, "bad row kind 2\n"),
+    (RowFault::KeyLong { len: 4097 }, "bad row key 4097\n"),
+    (RowFault::BodyLong { len: 60001 }, "bad row body 60001\n"),
+];
+
+static BOUND_FAULTS: [(BoundFault, &str); 2] = [
+    (BoundFault::Count, "bad bound count\n"),
+    (BoundFault::WrongKind { column: 1 }, "bad bound kind 1\n"),
+];
+
+static ALTER_ERRORS: [(AlterError, &str); 5] = [
+    (AlterError::Exists, "exists\n"),
+    (AlterError::TooMany, "too many columns\n"),
+    (AlterError::BadDefault, "bad default\n"),
+    (AlterError::NoColumn, "no column\n"),
+    (AlterError::NotInt32, "not int32\n"),
+];
+
+fn has_text(alloc: Global, reply: Reply, wanted: &str) -> Result<bool, Fail> {
+    let text = reply_text(alloc, &reply)?;
+    Ok(text.as_slice() == wanted.as_bytes())
+}
+
 #[test]
 fn refusals_are_lines(rt: HostRuntime) -> Result<(), Fail> {
-    for (reply, wanted) in [
-        (
-            Reply::BadRow {
-                fault: RowFault::Arity { want: 4, got: 5 },
-            },
-            "bad row arity 4 5\n",
-        ),
-        (
-            Reply::BadRow {
-                fault: RowFault::WrongKind { column: 2 },
-            },
-            "bad row kind 2\n",
-        ),
-        (
-            Reply::BadRow {
-                fault: RowFault::KeyLong { len: 4097 },
-            },
-            "bad row key 4097\n",
-        ),
-        (
-            Reply::BadRow {
-                fault: RowFault::BodyLong { len: 60001 },
-            },
-            "bad row body 60001\n",
-        ),
-        (
-            Reply::BadBound {
-                fault: BoundFault::Count,
-            },
-            "bad bound count\n",
-        ),
-        (
-            Reply::BadBound {
-                fault: BoundFault::WrongKind { column: 1 },
-            },
-            "bad bound kind 1\n",
-        ),
-        (
-            Reply::Refused {
-                why: AlterError::Exists,
-            },
-            "exists\n",
-        ),
-        (
-            Reply::Refused {
-                why: AlterError::TooMany,
-            },
-            "too many columns\n",
-        ),
-        (
-            Reply::Refused {
-                why: AlterError::BadDefault,
-            },
-            "bad default\n",
-        ),
-        (
-            Reply::Refused {
-                why: AlterError::NoColumn,
-            },
-            "no column\n",
-        ),
-        (
-            Reply::Refused {
-                why: AlterError::NotInt32,
-            },
-            "not int32\n",
-        ),
-    ] {
-        let text = reply_text(rt.alloc(), &reply)?;
-        assert_eq!(rt; text.as_slice(), wanted.as_bytes(), "the text of {reply:?}");
+    for (fault, wanted) in ROW_FAULTS.iter() {
+        let reply = Reply::BadRow { fault: *fault };
+        assert!(rt; has_text(rt.alloc(), reply, wanted)?, "{wanted:?}");
+    }
+    for (fault, wanted) in BOUND_FAULTS.iter() {
+        let reply = Reply::BadBound { fault: *fault };
+        assert!(rt; has_text(rt.alloc(), reply, wanted)?, "{wanted:?}");
+    }
+    for (why, wanted) in ALTER_ERRORS.iter() {
+        let reply = Reply::Refused { why: *why };
+        assert!(rt; has_text(rt.alloc(), reply, wanted)?, "{wanted:?}");
     }
     Ok(())
 }

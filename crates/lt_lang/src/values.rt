@@ -2,10 +2,8 @@
 ghost use Rattle.std.specs.Prelude.{◌≡◌, ◌<◌, ◌++◌, OnOk, decimal};
 ghost use Rattle.std.specs.List.{flat_map, list_all};
 ghost use Rattle.std.specs.Fmt.{signed_decimal};
-ghost use Rattle.lt_lang.specs.Grammar.{is_plain};
-ghost use Rattle.lt_lang.specs.Texts.{hex_byte, hex_digit, quoted_byte, row_line, spaced_value, value_text};
+ghost use Rattle.lt_lang.specs.Texts.{is_plain, hex_byte, hex_digit, quoted_byte, row_line, spaced_value, value_text};
 
-use crate::parsing::is_plain;
 use itoa::Buffer;
 use lt_rec::NoMemory;
 use lt_schema::{Row, Value};
@@ -57,6 +55,12 @@ fn put_quoted(out: &mut Vec<u8>, byte: u8) -> Result<(), NoMemory>
         _ => out.push(byte)?,
     }
     Ok(())
+}
+
+fn is_plain(byte: u8) -> bool
+    ensures { result ≡ is_plain byte }
+{
+    byte >= b' ' && byte <= b'~' && byte != b'"' && byte != b'\\'
 }
 
 fn is_all_plain(text: &[u8]) -> bool

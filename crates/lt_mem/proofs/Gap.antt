@@ -1,6 +1,6 @@
 -- Where a key belongs among pieces of rising records.
-use Rattle.std.proofs.Common.{◌≡◌, ℕ, ◌+◌, ◌-◌, ◌<◌, ◌≤◌, true, List, [], ◌++◌, length, take, drop, insert, get_or, sym, ap, ◌∙◌, inl, inr, arith, length-append}
-use Rattle.std.proofs.lemmas.List.{drop_more, drop_all, get_or-append-add}
+use Rattle.std.proofs.Common.{◌≡◌, ℕ, ◌+◌, ◌-◌, ◌<◌, ◌≤◌, true, List, [], ◌++◌, length, take, drop, insert, get_or, sym, ap, subst, ◌∙◌, inl, inr, arith, length-append, length-drop}
+use Rattle.std.proofs.lemmas.List.{drop_more, drop_all, get_or-append-add, get_or-take, get_or-drop, take-take, length-take-le}
 use Rattle.std.proofs.lemmas.List.Edits.{get_or-insert_at, get_or-insert_below, get_or-insert_above, length-insert}
 use Rattle.std.proofs.lemmas.Bool.{cases_lt}
 use Rattle.std.proofs.Math.ListN.{get_or-append}
@@ -8,7 +8,7 @@ use Rattle.lt_rec.specs.Bytes.{is_less}
 use Rattle.lt_rec.specs.Record.{Record}
 use Rattle.lt_rec.specs.Records.{joined}
 use Rattle.lt_mem.specs.Rising.{IsRising, NoneHas}
-use Rattle.lt_mem.specs.Pieces.{first_key, piece_at, place_of, IsUpTo, AreLined, IsGap}
+use Rattle.lt_mem.specs.Pieces.{first_key, piece_at, place_of, IsUpTo, AreLined, EachRises, IsGap}
 use Rattle.lt_mem.proofs.Order.{less_trans, less_differs}
 use Rattle.lt_mem.proofs.Joined.{in_three, first_at}
 
@@ -107,6 +107,42 @@ module _ (ps : List (List Record)) (at : ℕ) (lined : AreLined ps) (held : at <
 
     pub gap : IsGap ps key at place
     gap = record { held = held; within = within; before = below; after = above }
+
+-- a piece's records stand before those of later pieces
+start_more : (ps : List (List Record)) (i j : ℕ) → i < j → j ≤ length ps → length (joined (take i ps)) + length (piece_at ps i) ≤ length (joined (take j ps))
+start_more ps i j h w =
+    let n = length-take-le j ps w in
+    let three = ap length (in_three (take j ps) i (omega arith)) in
+    let front = ap (λ qs. length (joined qs)) (take-take i j ps (omega arith)) in
+    let same = ap length (get_or-take j ps i [] h) in
+    omega (arith, length-append (joined (take i (take j ps))) (piece_at (take j ps) i ++ joined (drop (i + 1) (take j ps))), length-append (piece_at (take j ps) i) (joined (drop (i + 1) (take j ps))))
+
+pub key_before : (ps : List (List Record)) (i j : ℕ) → AreLined ps → i < j → j < length ps → (k : ℕ) (d : Record) → k < length (piece_at ps i) → is_less (get_or (piece_at ps i) k d).key (first_key (piece_at ps j)) ≡ true
+key_before ps i j lined h w k d v =
+    let held : i < length ps = omega arith in
+    let more = start_more ps i j h (omega arith) in
+    let full = some ps j lined w in
+    let size = long ps j lined w in
+    ap (λ x. is_less (get_or (piece_at ps i) k d).key x) (sym (first_is ps j lined w d))
+    ∙ ap (λ (x : Record). is_less x.key (get_or (joined ps) (length (joined (take j ps))) d).key) (sym (in_piece ps i lined held k d v))
+    ∙ lined.rising (length (joined (take i ps)) + k) (length (joined (take j ps))) d (omega arith) (omega arith)
+
+pub key_within : (ps : List (List Record)) (at : ℕ) → AreLined ps → at < length ps → (k : ℕ) (d : Record) → k < length (piece_at ps at) → IsUpTo (first_key (piece_at ps at)) (get_or (piece_at ps at) k d).key
+key_within ps at lined held k d v =
+    let first = first_at (piece_at ps at) d (some ps at lined held) in
+    elim (cases_lt 0 k) [
+      | inl later ↦ inl (ap (λ x. is_less x (get_or (piece_at ps at) k d).key) (sym first) ∙ piece_rises ps at lined held 0 k d later v)
+      | inr front ↦ let s : 0 ≡ k = omega arith in inr (sym first ∙ ap (λ j. (get_or (piece_at ps at) j d).key) s)
+    ]
+
+-- pieces between two places
+pub between_rises : (ps : List (List Record)) (from to : ℕ) → AreLined ps → to ≤ length ps → EachRises (drop from (take to ps))
+between_rises ps from to lined h k w =
+    let n = length-drop from (take to ps) in
+    let m = length-take-le to ps h in
+    let v : from + k < to = omega arith in
+    let same : piece_at (drop from (take to ps)) k ≡ piece_at ps (from + k) = get_or-drop from (take to ps) k [] ∙ get_or-take to ps (from + k) [] v in
+    subst IsRising (sym same) (piece_rises ps (from + k) lined (omega arith))
 
 -- what a gap says of the records
 module _ (xs : List Record) (key : List ℕ) (n : ℕ) (within : n ≤ length xs) (before : (k : ℕ) (d : Record) → k < n → is_less (get_or xs k d).key key ≡ true)

@@ -1,8 +1,8 @@
 -- Pieces, one after the other.
-use Rattle.std.proofs.Common.{◌≡◌, ℕ, suc, ◌+◌, ◌-◌, ◌<◌, ◌≤◌, List, [], ◌∷◌, ◌++◌, length, take, drop, set, insert, get_or, refl, sym, ap, ◌∙◌, inl, inr, arith, append_assoc}
-use Rattle.std.proofs.lemmas.List.{take-append-drop, drop_more, set_split, length-take-le, take-append-le, drop-append-le, take-take, get_or-set_same, get_or-set_other, length-set}
+use Rattle.std.proofs.Common.{◌≡◌, ℕ, suc, ◌+◌, ◌-◌, ◌<◌, ◌≤◌, List, [], ◌∷◌, ◌++◌, length, take, drop, set, insert, get_or, refl, sym, ap, subst, ◌∙◌, inl, inr, arith, append_assoc, append-nil, length-drop}
+use Rattle.std.proofs.lemmas.List.{take-append-drop, drop_more, set_split, length-take-le, take-append-le, drop-append-le, get_or-set_same, get_or-set_other, length-set, get_or_default}
 use Rattle.std.proofs.lemmas.List.Edits.{get_or-insert_at, get_or-insert_below, get_or-insert_above, length-insert}
-use Rattle.std.proofs.Math.Seq.{drop-append_seam}
+use Rattle.std.proofs.Math.Seq.{take-append-add, drop-append-add}
 use Rattle.std.proofs.lemmas.Bool.{cases_lt}
 use Rattle.lt_rec.specs.Record.{Record}
 use Rattle.lt_rec.specs.Records.{joined}
@@ -44,20 +44,6 @@ insert_piece ps at place r h w =
     ∙ insert_middle (joined (take at ps)) (piece_at ps at) (joined (drop (at + 1) ps)) place r w
     ∙ ap (λ xs. insert xs (length (joined (take at ps)) + place) r) (sym (in_three ps at h))
 
--- a piece in two
-pub split_same : (ps : List (List Record)) (at : ℕ) (low high : List Record) → at < length ps → piece_at ps at ≡ low ++ high → joined (set (insert ps (at + 1) high) at low) ≡ joined ps
-split_same ps at low high h e =
-    let qs = insert ps (at + 1) high in
-    let front = length-take-le (at + 1) ps (omega arith) in
-    let size = length-insert ps (at + 1) high (omega arith) in
-    let start : take at qs ≡ take at ps = take-append-le at (take (at + 1) ps) (high ∷ drop (at + 1) ps) (omega arith) ∙ take-take at (at + 1) ps (omega arith) in
-    let rest : drop (at + 1) qs ≡ high ∷ drop (at + 1) ps = ap (λ k. drop k qs) (sym front) ∙ drop-append_seam (take (at + 1) ps) (high ∷ drop (at + 1) ps) in
-    after_set qs at low (omega arith)
-    ∙ (λ i. joined (start i) ++ (low ++ joined (rest i)))
-    ∙ ap (λ xs. joined (take at ps) ++ xs) (sym (append_assoc low high (joined (drop (at + 1) ps))))
-    ∙ ap (λ xs. joined (take at ps) ++ (xs ++ joined (drop (at + 1) ps))) (sym e)
-    ∙ sym (in_three ps at h)
-
 pub some_set : (ps : List (List Record)) (at : ℕ) (q : List Record) → at < length ps → NoneIsEmpty ps → 0 < length q → NoneIsEmpty (set ps at q)
 some_set ps at q h some full k d w =
     let size = length-set ps at q in
@@ -82,3 +68,37 @@ some_insert ps at q h some full k d w =
         | inr same ↦ let s : k ≡ at = omega arith in rw (s, get_or-insert_at ps at q d h) full
       ]
     ]
+
+-- a piece in two
+module _ (ps qs rs : List (List Record)) (at n : ℕ) (old low high : List Record) (held : at < length ps) (same : rs ≡ ps) (is : old ≡ get_or rs at old)
+    (front : low ≡ take n old) (end : high ≡ drop n old) (edited : qs ≡ insert (set rs at low) (at + 1) high) where
+  whole : piece_at ps at ≡ low ++ high
+  whole =
+      let w : at < length rs = (let e = ap length same in omega arith) in
+      ap (λ xs. piece_at xs at) (sym same) ∙ sym (is ∙ get_or_default rs at old [] w) ∙ sym (take-append-drop n old) ∙ (λ i. sym front i ++ sym end i)
+
+  pub split_same : joined qs ≡ joined ps
+  split_same =
+      let a = take at ps in
+      let rest = drop (at + 1) ps in
+      let size = length-take-le at ps (omega arith) in
+      let s : suc at ≡ at + 1 = omega arith in
+      let t : length a + 1 ≡ at + 1 = omega arith in
+      let mid : set rs at low ≡ a ++ low ∷ rest = ap (λ xs. set xs at low) same ∙ set_split ps at low held ∙ ap (λ k. a ++ low ∷ drop k ps) s in
+      let before : take (at + 1) (a ++ low ∷ rest) ≡ a ++ low ∷ [] = ap (λ k. take k (a ++ low ∷ rest)) (sym t) ∙ take-append-add a (low ∷ rest) 1 in
+      let behind : drop (at + 1) (a ++ low ∷ rest) ≡ rest = ap (λ k. drop k (a ++ low ∷ rest)) (sym t) ∙ drop-append-add a (low ∷ rest) 1 in
+      ap joined (edited ∙ ap (λ xs. insert xs (at + 1) high) mid ∙ (λ i. before i ++ high ∷ behind i))
+      ∙ joined-append (a ++ low ∷ []) (high ∷ rest)
+      ∙ ap (λ xs. xs ++ (high ++ joined rest)) (joined-append a (low ∷ []) ∙ ap (λ xs. joined a ++ xs) (append-nil low))
+      ∙ append_assoc (joined a) low (high ++ joined rest)
+      ∙ ap (λ xs. joined a ++ xs) (sym (append_assoc low high (joined rest)) ∙ ap (λ xs. xs ++ joined rest) (sym whole))
+      ∙ sym (in_three ps at held)
+
+  pub split_some : NoneIsEmpty ps → n < length old → 0 < n → NoneIsEmpty qs
+  split_some full long some =
+      let e = ap length same in
+      let size = length-set rs at low in
+      let l = ap length front ∙ length-take-le n old (omega arith) in
+      let h = ap length end ∙ length-drop n old in
+      subst NoneIsEmpty (sym edited)
+      (some_insert (set rs at low) (at + 1) high (omega arith) (some_set rs at low (omega arith) (subst NoneIsEmpty (sym same) full) (omega arith)) (omega arith))

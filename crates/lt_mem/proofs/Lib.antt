@@ -2,5 +2,8 @@ mod Order
 mod Between
 mod Joined
 mod Gap
+mod Cuts
 mod Kept
 mod Reading
+mod Filtered
+mod Growth

@@ -1,10 +1,13 @@
 -- Rising records in pieces.
-use Rattle.std.specs.Prelude.{◌≡◌, ℕ, ◌+◌, ◌-◌, ◌<◌, ◌≤◌, ◌⊎◌, Bool, true, ◌&&◌, nat_le, List, [], ◌∷◌, ◌++◌, length, take, slice_index_or}
+use Rattle.std.specs.Prelude.{◌≡◌, ℕ, ◌+◌, ◌-◌, ◌<◌, ◌≤◌, ◌⊎◌, Bool, true, false, ◌&&◌, nat_le, List, [], ◌∷◌, ◌++◌, length, take, slice_index_or}
 use Rattle.std.specs.List.{All}
 use Rattle.lt_rec.specs.Bytes.{is_less}
 use Rattle.lt_rec.specs.Record.{Record}
 use Rattle.lt_rec.specs.Records.{joined}
+use Rattle.lt_rec.specs.Boxes.{is_below, meets_lo, meets_hi}
+use Rattle.lt_rec.specs.declared.cut.Cut.{Cut}
 use Rattle.lt_rec.specs.declared.raw_box.RawBox.{RawBox}
+use Rattle.lt_mem.specs.declared.growing.Growing.{Growing}
 use Rattle.lt_mem.specs.Rising.{IsRising}
 
 abbrev pub first_key : List Record → List ℕ
@@ -42,19 +45,43 @@ pub record IsFound (ps : List (List Record)) (key : List ℕ) (at place : ℕ) :
   pub within : place < length (piece_at ps at)
   pub same : (d : Record) → (slice_index_or (piece_at ps at) place d).key ≡ key
 
+abbrev pub EachRises : List (List Record) → Type 0
+EachRises ps = (k : ℕ) → k < length ps → IsRising (piece_at ps k)
+
 -- the timestamps of all records lie between these
 abbrev pub AreWithin : List Record → ℕ → ℕ → Type 0
 AreWithin recs low high = All (λ r. (low ≤ r.ts) × (r.ts ≤ high)) recs
 
--- a list that grows up to a limit, and how many more it takes
-pub record Growing : Type 0 where
-  pub list : List Record
-  pub left : ℕ
-
--- with the first of these records, as many as there is room for
-abbrev pub grown : Growing → List Record → Growing
-grown front recs = record { list = front.list ++ take front.left recs; left = front.left - length recs }
-
 -- the record's timestamp is one of the box's times
 abbrev pub has_time : RawBox → Record → Bool
 has_time area r = nat_le area.from r.ts && nat_le r.ts area.to
+
+abbrev pub AllHaveTime : RawBox → List Record → Type 0
+AllHaveTime area recs = All (λ r. has_time area r ≡ true) recs
+
+abbrev pub NoneHasTime : RawBox → List Record → Type 0
+NoneHasTime area recs = All (λ r. has_time area r ≡ false) recs
+
+-- the keys of all records, or of none, lie below the cut
+abbrev pub AllBelow : Cut → List Record → Type 0
+AllBelow cut recs = All (λ r. is_below cut r.key ≡ true) recs
+
+abbrev pub NoneBelow : Cut → List Record → Type 0
+NoneBelow cut recs = All (λ r. is_below cut r.key ≡ false) recs
+
+-- the keys of all records, or of none, meet a bound of the box
+abbrev pub AllMeetLo : RawBox → List Record → Type 0
+AllMeetLo area recs = All (λ r. meets_lo area.lo r.key ≡ true) recs
+
+abbrev pub NoneMeetsLo : RawBox → List Record → Type 0
+NoneMeetsLo area recs = All (λ r. meets_lo area.lo r.key ≡ false) recs
+
+abbrev pub AllMeetHi : RawBox → List Record → Type 0
+AllMeetHi area recs = All (λ r. meets_hi area.hi r.key ≡ true) recs
+
+abbrev pub NoneMeetsHi : RawBox → List Record → Type 0
+NoneMeetsHi area recs = All (λ r. meets_hi area.hi r.key ≡ false) recs
+
+-- with the first of these records, as many as there is room for
+abbrev pub grown : Growing → List Record → Growing
+grown found recs = record { list = found.list ++ take found.left recs; left = found.left - length recs }

@@ -2,11 +2,14 @@
 #![tactic(auto)]
 
 mod add_error;
+mod growing;
 mod piece;
 mod pieces;
+mod reach;
 mod search;
 mod store;
 mod tablet;
+mod timed;
 mod walk;
 
 pub use add_error::AddError;

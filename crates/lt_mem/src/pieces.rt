@@ -3,6 +3,7 @@ ghost use Rattle.lt_mem.specs.Rising.{IsRising, NoneHas, Gains, Refuses, in_orde
 ghost use Rattle.lt_rec.specs.Boxes.{in_box};
 
 use crate::AddError;
+use crate::growing::Growing;
 use crate::piece::Piece;
 use crate::search::find;
 use crate::store::{begin, put_at};
@@ -62,7 +63,9 @@ impl Pieces {
     pub fn walk(&self, area: &RawBox, down: bool, limit: usize) -> Result<RecList, NoMemory>
         ensures { IfOk result (λ list. list ≡ take limit (filter (in_box area.now) (in_order down self.now))) }
     {
-        walk_pieces(*self.pieces.allocator(), self.pieces.as_slice(), area, down)?.front(limit)
+        let mut found = Growing::new(*self.pieces.allocator(), limit);
+        walk_pieces(self.pieces.as_slice(), area, down, &mut found)?;
+        Ok(found.list)
     }
 
     /// Adds a record, unless one has its key already.

@@ -1,57 +1,99 @@
-ghost use Rattle.std.specs.Prelude.{◌≡◌, ◌<◌, ◌++◌, [], ◌∷◌, OnOk, IfOk, filter, length, slice_index_or};
+ghost use Rattle.std.specs.Prelude.{◌≡◌, ℕ, ◌+◌, ◌<◌, ◌≤◌, true, OnOk, filter, length};
 ghost use Rattle.lt_rec.specs.Boxes.{in_box};
-ghost use Rattle.lt_rec.specs.Record.{Record};
-ghost use Rattle.lt_rec.specs.Records.{joined};
-ghost use Rattle.lt_mem.specs.Rising.{in_order};
+ghost use Rattle.lt_rec.specs.Records.{joined, piece};
+ghost use Rattle.lt_mem.specs.Rising.{IsRising, in_order};
+ghost use Rattle.lt_mem.specs.Pieces.{grown, has_time, piece_at, AreLined, AllMeetLo, AllMeetHi, EachRises};
 
+use crate::growing::Growing;
 use crate::piece::Piece;
-use lt_rec::{NoMemory, RawBox, RecList};
-use std::alloc::Global;
+use crate::reach::{end_of, first_of, from_of, to_of};
+use crate::timed::add_timed;
+use lt_rec::{NoMemory, RawBox};
 
-/// Adds the record at this place, where it lies in the box.
-fn walk_one(
-    piece: &Piece,
-    at: usize,
+/// Adds the records from `from` up to `to` with a timestamp of the box. Where all have one, they are one chunk.
+fn walk_run(
+    held: &Piece,
+    from: usize,
+    to: usize,
     area: &RawBox,
     down: bool,
-    list: &mut RecList,
+    found: &mut Growing,
 ) -> Result<(), NoMemory>
-    requires { at < length piece.now }
-    ensures { OnOk result ((d : Record) → list.new ≡ list.old ++ filter (in_box area.now) (slice_index_or piece.now at d ∷ [])) }
+    requires ordered { from ≤ to }
+    requires within { to ≤ length held.now }
+    ensures { OnOk result (found.new ≡ grown found.old (filter (has_time area.now) (piece held.now from to down))) }
 {
-    let recs = piece.as_slice();
-    if !area.has(&recs[at]) {
+    if held.misses(area) {
         return Ok(());
     }
-    list.push(piece.share(at, at + 1, down)?)
+    let run = held.share(from, to, down)?;
+    if held.lies_in(area) {
+        return found.add(run);
+    }
+    let (front, _) = held.as_slice().split_at(to);
+    let (_, recs) = front.split_at(from);
+    add_timed(recs, &run, area, down, found)
 }
 
-/// Adds the piece's records that lie in the box.
-fn walk_piece(piece: &Piece, area: &RawBox, down: bool, list: &mut RecList) -> Result<(), NoMemory>
-    ensures { OnOk result (list.new ≡ list.old ++ filter (in_box area.now) (in_order down piece.now)) }
+/// Adds the piece's records that lie in the box. Keys are looked at where it isn't known that all meet a bound.
+fn walk_piece(
+    held: &Piece,
+    meets_lo: bool,
+    meets_hi: bool,
+    area: &RawBox,
+    down: bool,
+    found: &mut Growing,
+) -> Result<(), NoMemory>
+    requires rising { IsRising held.now }
+    requires lo { meets_lo ≡ true → AllMeetLo area.now held.now }
+    requires hi { meets_hi ≡ true → AllMeetHi area.now held.now }
+    ensures { OnOk result (found.new ≡ grown found.old (filter (in_box area.now) (in_order down held.now))) }
 {
-    let count = piece.as_slice().len();
+    let recs = held.as_slice();
+    let from = from_of(recs, area, meets_lo);
+    let to = to_of(recs, area, meets_hi);
+    if from >= to {
+        return Ok(());
+    }
+    walk_run(held, from, to, area, down, found)
+}
+
+/// Adds the records of the box. All pieces but the first meet its lower bound, and all but the last its upper one.
+fn walk_between(
+    pieces: &[Piece],
+    area: &RawBox,
+    down: bool,
+    found: &mut Growing,
+) -> Result<(), NoMemory>
+    requires rising { EachRises pieces.now }
+    requires lo { (k : ℕ) → 0 < k → k < length pieces.now → AllMeetLo area.now (piece_at pieces.now k) }
+    requires hi { (k : ℕ) → k + 1 < length pieces.now → AllMeetHi area.now (piece_at pieces.now k) }
+    ensures { OnOk result (found.new ≡ grown found.old (filter (in_box area.now) (in_order down (joined pieces.now)))) }
+{
+    let count = pieces.len();
     for step in 0..count {
+        if found.is_full() {
+            return Ok(());
+        }
         let at = if down { count - 1 - step } else { step };
-        walk_one(piece, at, area, down, list)?;
+        walk_piece(&pieces[at], at > 0, at + 1 < count, area, down, found)?;
     }
     Ok(())
 }
 
-/// The records of the box, in the order of reading.
+/// Adds the records of the box, in the order of reading. Pieces that its keys don't reach are not looked at.
 pub fn walk_pieces(
-    alloc: Global,
     pieces: &[Piece],
     area: &RawBox,
     down: bool,
-) -> Result<RecList, NoMemory>
-    ensures { IfOk result (λ list. list ≡ filter (in_box area.now) (in_order down (joined pieces.now))) }
+    found: &mut Growing,
+) -> Result<(), NoMemory>
+    requires lined { AreLined pieces.now }
+    ensures { OnOk result (found.new ≡ grown found.old (filter (in_box area.now) (in_order down (joined pieces.now)))) }
 {
-    let mut list = RecList::new(alloc);
-    let count = pieces.len();
-    for step in 0..count {
-        let at = if down { count - 1 - step } else { step };
-        walk_piece(&pieces[at], area, down, &mut list)?;
-    }
-    Ok(list)
+    let end = end_of(pieces, area);
+    let first = first_of(pieces, area).min(end);
+    let (front, _) = pieces.split_at(end);
+    let (_, between) = front.split_at(first);
+    walk_between(between, area, down, found)
 }

@@ -11,6 +11,8 @@ mod handles;
 mod history;
 mod image;
 mod replay;
+#[cfg(test)]
+mod tests;
 
 pub use device::MemDevice;
 pub use dir::MemDir;

@@ -1,13 +1,13 @@
 -- What a table answers that stands for a history.
-use Rattle.std.proofs.Common.{◌≡◌, ◌≢◌, inr, ℕ, ◌+◌, ◌^◌, ◌<◌, ◌≤◌, Bool, IsTrue, List, [], ◌∷◌, ◌++◌, length, get_or, Some, None, refl, sym, ◌∙◌, ap, subst, add-zero}
+use Rattle.std.proofs.Common.{◌≡◌, ◌≢◌, inr, ℕ, ◌+◌, ◌^◌, ◌<◌, ◌≤◌, Bool, IsTrue, List, [], ◌∷◌, Some, None, refl, sym, ◌∙◌, ap, subst, add-zero}
 use Rattle.std.specs.Prelude.{All, Contains}
-use Rattle.std.specs.List.{HoldsAt}
 use Rattle.std.proofs.lemmas.List.{append-nil}
-use Rattle.std.proofs.lemmas.Bool.Decides.{Decides-ltb}
 use Rattle.lt_schema.specs.declared.value.Value.{Value}
 use Rattle.lt_schema.specs.declared.change.Change.{Change}
 use Rattle.lt_schema.specs.declared.change.AlterError.{AlterError}
 use Rattle.lt_schema.specs.declared.row.RowFault.{RowFault}
+use Rattle.lt_schema.specs.Shapes.{SchemaShape}
+use Rattle.lt_schema.specs.Lawful.{is_schema}
 use Rattle.lt_schema.specs.Versions.{newest, newest_version, alter_refusal}
 use Rattle.lt_schema.specs.Check.{Passes, row_fault, key_of, time_of}
 use Rattle.lt_lang.specs.declared.query.Query.{Query}
@@ -15,7 +15,7 @@ use Rattle.lt_lang.specs.declared.query.BoundFault.{BoundFault}
 use Rattle.lt_lang.specs.declared.command.Command.{Command}
 use Rattle.lt_lang.specs.declared.command.Command.TheVariants.{Insert, Scan, Alter}
 use Rattle.lt_lang.specs.declared.reply.Reply.{Reply}
-use Rattle.lt_lang.specs.declared.reply.Reply.TheVariants.{Inserted, BadRow, TooOld, Present, Spent, Rows, BadLimit, BadBound, Version, Refused}
+use Rattle.lt_lang.specs.declared.reply.Reply.TheVariants.{Inserted, BadRow, TooOld, Present, Spent, Rows, BadLimit, BadBound, Version, Refused, NoMemory}
 use Rattle.lt_model.specs.History.{Numbered, Opening, Entry, row_entry, schema_entry, History, extended}
 use Rattle.lt_model.specs.Readings.{rows, next, schemas, since, bound_at, next_tablet}
 use Rattle.lt_model.specs.Boxes.{is_limit, query_fault}
@@ -23,8 +23,9 @@ use Rattle.lt_model.specs.Legal.{IsLegal}
 use Rattle.lt_model.specs.Verdict.{IsTimely, IsVerdict, HasNewKey, accepted}
 use Rattle.lt_model.specs.Step.{IsStep}
 use Rattle.lt_model.proofs.Fronts.{rows-extended_by_row, next-extended_by_row, low-extended_by_row, kept-extended_by_row, schemas-extended_by_row, rows-extended_by_none, next-extended_by_none, low-extended, kept-extended, schemas-extended}
-use Rattle.lt_model.proofs.Lawful.{IsLegal-accepted, IsLegal-lawful}
-use Rattle.lt_plain.specs.Table.{state_of, StandsFor, IsAnswered, Answers, IsPage, MayAdd}
+use Rattle.lt_model.proofs.Lawful.{IsLegal-accepted, IsLegal-lawful, IsLegal-opening}
+use Rattle.lt_plain.specs.Table.{state_of, StandsFor, IsAnswered, Answers, IsPage, HoldsKey, empty_of, with_row, with_change, MayAdd}
+use Rattle.lt_plain.proofs.Paging.{IsAnswer-page}
 
 same_state : (a b : Opening) → a.schemas ≡ b.schemas → a.life ≡ b.life → a.low ≡ b.low → a.next ≡ b.next → a.kept ≡ b.kept → a.rows ≡ b.rows → a ≡ b
 same_state a b schemas_are life_is low_is next_is kept_is rows_are =
@@ -65,20 +66,19 @@ IsTimely-held held row now h stands passes unexpired = record {
   unexpired = subst (λ (o : Opening). bound_at o.life o.low now ≤ time_of o.schemas.first row) (sym stands) unexpired;
 }
 
-pub answers_present : (held : Opening) (row : List Value) (now at : ℕ) (found : Numbered) → Passes (newest held.schemas) row → bound_at held.life held.low now ≤ time_of held.schemas.first row
-    → at < length held.rows → found ≡ get_or held.rows at found → HoldsAt (λ (other : Numbered). key_of held.schemas.first other.row ≡ key_of held.schemas.first row) held.rows at
-    → Answers held held now (Insert row) (Present found.seq)
-answers_present held row now at found passes unexpired below is same h legal stands =
-    nothing_added h held now (Insert row) (Present found.seq) legal stands (
+pub answers_present : (held : Opening) (row : List Value) (now seq : ℕ) → Passes (newest held.schemas) row → bound_at held.life held.low now ≤ time_of held.schemas.first row
+    → HoldsKey held.schemas.first held.rows row seq → Answers held held now (Insert row) (Present seq)
+answers_present held row now seq passes unexpired holds h legal stands =
+    nothing_added h held now (Insert row) (Present seq) legal stands (
       refl,
       (
         (
           IsTimely-held held row now h stands passes unexpired,
           record {
-            found = found;
-            among = subst (λ (o : Opening). Contains o.rows found) (sym stands) (at, below, sym is);
-            same_key = subst (λ (o : Opening). key_of o.schemas.first found.row ≡ key_of o.schemas.first row) (sym stands) (ap (λ (n : Numbered). key_of held.schemas.first n.row) is ∙ same found);
-            number = refl;
+            found = holds.found;
+            among = subst (λ (o : Opening). Contains o.rows holds.found) (sym stands) holds.among;
+            same_key = subst (λ (o : Opening). key_of o.schemas.first holds.found.row ≡ key_of o.schemas.first row) (sym stands) holds.same_key;
+            number = holds.number;
           },
         ),
         refl,
@@ -98,10 +98,6 @@ pub answers_spent : (held : Opening) (row : List Value) (now : ℕ) → Passes (
 answers_spent held row now passes unexpired differ full h legal stands =
     nothing_added h held now (Insert row) Spent legal stands
     (refl, ((IsTimely-held held row now h stands passes unexpired, HasNewKey-held held row h stands differ, subst (λ (o : Opening). 2 ^ 62 ≤ o.next) (sym stands) full), refl))
-
--- what is held with one row more
-abbrev pub with_row : Opening → List Value → Opening
-with_row held row = record held { next = held.next + 1; rows = held.rows ++ record { seq = held.next; ver = newest_version held.schemas; row = row } ∷ [] }
 
 row_stands : (h : History) (row : List Value) (tablet : ℕ) → StandsFor (with_row (state_of h) row) (extended h (row_entry (record { seq = next h; ver = newest_version (schemas h); row = row }) tablet ∷ []))
 row_stands h row tablet =
@@ -135,23 +131,8 @@ answers_bad_bound held query now fault right is h legal stands =
 rows_now : (h : History) (query : Query) (now : ℕ) (shown : List (List Value)) (more : Bool) → IsLegal h → IsTrue (is_limit query.limit) → query_fault (newest (schemas h)) query ≡ None
     → IsPage (schemas h) query (since h now) (rows h) shown more → IsAnswered h (state_of h) now (Scan query) (Rows shown more (next h) (since h now))
 rows_now h query now shown more legal right bounds page =
-    nothing_added h (state_of h) now (Scan query) (Rows shown more (next h) (since h now)) legal refl (
-      refl,
-      (
-        record { limit = right; bounds = bounds; place_is = refl; bound_is = refl },
-        record {
-          sorted = page.sorted;
-          all_of_them = page.all_of_them;
-          in_order = page.in_order;
-          first_ones = page.first_ones;
-          others = (
-            λ told. (Decides-ltb query.limit (length page.sorted)).0 (sym page.others ∙ told),
-            λ less. page.others ∙ (Decides-ltb query.limit (length page.sorted)).1 less,
-          );
-        },
-        refl,
-      ),
-    )
+    nothing_added h (state_of h) now (Scan query) (Rows shown more (next h) (since h now)) legal refl
+    (refl, (record { limit = right; bounds = bounds; place_is = refl; bound_is = refl }, IsAnswer-page h query (since h now) shown more legal page, refl))
 
 pub answers_rows : (held : Opening) (query : Query) (now : ℕ) (shown : List (List Value)) (more : Bool) → IsTrue (is_limit query.limit) → query_fault (newest held.schemas) query ≡ None
     → IsPage held.schemas query (bound_at held.life held.low now) held.rows shown more → Answers held held now (Scan query) (Rows shown more held.next (bound_at held.life held.low now))
@@ -163,10 +144,6 @@ answers_rows held query now shown more right bounds page h legal stands =
 pub answers_refused : (held : Opening) (change : Change) (why : AlterError) (now : ℕ) → alter_refusal (newest held.schemas) change ≡ Some why → Answers held held now (Alter change) (Refused why)
 answers_refused held change why now is h legal stands =
     nothing_added h held now (Alter change) (Refused why) legal stands (refl, (subst (λ (o : Opening). alter_refusal (newest o.schemas) change ≡ Some why) (sym stands) is, refl))
-
--- what is held under one change more
-abbrev pub with_change : Opening → Change → Opening
-with_change held change = record held { schemas = record { first = held.schemas.first; changes = held.schemas.changes ++ change ∷ [] } }
 
 change_stands : (h : History) (change : Change) → StandsFor (with_change (state_of h) change) (extended h (schema_entry change ∷ []))
 change_stands h change =
@@ -187,3 +164,16 @@ pub answers_version : (held : Opening) (change : Change) (now : ℕ) → alter_r
 answers_version held change now admitted h legal stands =
     subst (λ (o : Opening). alter_refusal (newest o.schemas) change ≡ None → IsAnswered h (with_change o change) now (Alter change) (Version (newest_version o.schemas + 1))) stands
     (λ admits. altered_now h change now legal admits) admitted
+
+pub answers_no_memory_insert : (held : Opening) (row : List Value) (now : ℕ) → Answers held held now (Insert row) NoMemory
+answers_no_memory_insert held row now h legal stands = nothing_added h held now (Insert row) NoMemory legal stands (refl, refl)
+
+pub answers_no_memory_scan : (held : Opening) (query : Query) (now : ℕ) → Answers held held now (Scan query) NoMemory
+answers_no_memory_scan held query now h legal stands = nothing_added h held now (Scan query) NoMemory legal stands (refl, refl)
+
+pub answers_no_memory_alter : (held : Opening) (change : Change) (now : ℕ) → Answers held held now (Alter change) NoMemory
+answers_no_memory_alter held change now h legal stands = nothing_added h held now (Alter change) NoMemory legal stands (refl, refl)
+
+-- the empty table's history is legal
+pub IsLegal-empty : (schema : SchemaShape) → IsTrue (is_schema schema) → IsLegal (record { opening = empty_of (record { first = schema; changes = [] }); entries = [] })
+IsLegal-empty schema lawful = IsLegal-opening (empty_of (record { first = schema; changes = [] })) (record { schema = lawful; changes = tt; rows_may = tt; rising = tt }) tt

@@ -1,8 +1,10 @@
 -- For which histories a plain table stands, and what it answers then.
-use Rattle.std.specs.Prelude.{ℕ, ◌≡◌, ◌≢◌, ◌≤◌, ◌<◌, ◌^◌, Bool, ◌&&◌, List, length, take, map, filter, nat_le, nat_lt, All, IsSorted, IsPermutation}
+use Rattle.std.specs.Prelude.{ℕ, ◌+◌, ◌≡◌, ◌≢◌, ◌≤◌, ◌<◌, ◌^◌, Bool, ◌&&◌, List, [], ◌∷◌, ◌++◌, length, take, map, filter, nat_le, nat_lt, All, Contains, IsSorted, IsPermutation, None}
+use Rattle.std.specs.declared.cmp.Ordering.{Ordering}
 use Rattle.lt_schema.specs.declared.value.Value.{Value}
 use Rattle.lt_schema.specs.Shapes.{SchemaShape}
-use Rattle.lt_schema.specs.Versions.{SchemaVersions, newest, lift_to_newest}
+use Rattle.lt_schema.specs.declared.change.Change.{Change}
+use Rattle.lt_schema.specs.Versions.{SchemaVersions, newest, newest_version, lift_to_newest}
 use Rattle.lt_schema.specs.Check.{Passes, key_of, time_of}
 use Rattle.lt_lang.specs.declared.query.Query.{Query}
 use Rattle.lt_lang.specs.declared.command.Command.{Command}
@@ -42,17 +44,40 @@ box_has schema query row =
 abbrev pub is_shown : SchemaShape → Query → ℕ → Numbered → Bool
 is_shown schema query since numbered = box_has schema query numbered.row && nat_le since (time_of schema numbered.row)
 
--- the box's unexpired rows among these, under the newest schema
-abbrev pub shown_of : SchemaVersions → Query → ℕ → List Numbered → List (List Value)
-shown_of versions query since numbered = map (λ one. lift_to_newest versions one.row one.ver) (filter (is_shown versions.first query since) numbered)
+-- a row under the newest schema
+abbrev pub under_newest : SchemaVersions → Numbered → List Value
+under_newest versions numbered = lift_to_newest versions numbered.row numbered.ver
 
--- the first of the box's unexpired rows in key order, up to the limit, and whether there are others
+-- rows by key, or the other way round
+abbrev pub numbered_cmp : SchemaShape → Bool → Numbered → Numbered → Ordering
+numbered_cmp schema down a b = row_cmp schema down a.row b.row
+
+-- the box's unexpired rows among these in key order: the first of them are shown under the newest schema, up to the limit
 pub record IsPage (versions : SchemaVersions) (query : Query) (since : ℕ) (numbered : List Numbered) (shown : List (List Value)) (more : Bool) : Type 0 where
-  pub sorted : List (List Value)
-  pub all_of_them : IsPermutation (shown_of versions query since numbered) sorted
-  pub in_order : IsSorted (row_cmp versions.first query.down) sorted
-  pub first_ones : shown ≡ take query.limit sorted
+  pub sorted : List Numbered
+  pub all_of_them : IsPermutation (filter (is_shown versions.first query since) numbered) sorted
+  pub in_order : IsSorted (numbered_cmp versions.first query.down) sorted
+  pub first_ones : shown ≡ map (under_newest versions) (take query.limit sorted)
   pub others : more ≡ nat_lt query.limit (length sorted)
+
+-- a row among these has the row's key and this number
+pub record HoldsKey (schema : SchemaShape) (numbered : List Numbered) (row : List Value) (seq : ℕ) : Type 0 where
+  pub found : Numbered
+  pub among : Contains numbered found
+  pub same_key : key_of schema found.row ≡ key_of schema row
+  pub number : found.seq ≡ seq
+
+-- the table without rows and without a time to live
+abbrev pub empty_of : SchemaVersions → Opening
+empty_of versions = record { schemas = versions; life = None; low = 0; next = 0; kept = 0; rows = [] }
+
+-- what is held with one row more, under the next number and the newest version
+abbrev pub with_row : Opening → List Value → Opening
+with_row held row = record held { next = held.next + 1; rows = held.rows ++ record { seq = held.next; ver = newest_version held.schemas; row = row } ∷ [] }
+
+-- what is held under one change more
+abbrev pub with_change : Opening → Change → Opening
+with_change held change = record held { schemas = record { first = held.schemas.first; changes = held.schemas.changes ++ change ∷ [] } }
 
 -- no verdict refuses the row: it passes, is unexpired, its key is new, and a number is left
 pub record MayAdd (held : Opening) (row : List Value) (now : ℕ) : Type 0 where

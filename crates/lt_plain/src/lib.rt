@@ -1,11 +1,13 @@
-//! A table as a plain list of rows, in the order of insertion: slow, and plainly what the definitions say.
-//! Faster bodies are compared with it.
+//! A table of any schema as a plain list of rows, in the order of their numbers: slow, and plainly what the definitions
+//! say. Faster bodies are compared with it.
 #![tactic(auto)]
 
+mod bounds;
 mod boxes;
-mod keyed;
+mod list_table;
+mod pages;
 mod rows;
 mod stored;
-mod table;
 
-pub use table::PlainTable;
+pub use list_table::ListTable;
+pub use stored::Stored;

@@ -14,8 +14,8 @@ mod schema;
 mod schemas;
 mod value;
 
-pub use checking::{body_len_in_bytes, key_len_in_bytes};
 pub use change::{AlterError, Change};
+pub use checking::{body_len_in_bytes, key_len_in_bytes};
 pub use column::{Column, Columns};
 pub use json::SchemaError;
 pub use kind::Kind;

@@ -1,3 +1,4 @@
 mod ThreeWords
-pub mod OneClient
+pub mod Telling
+pub mod Answering
 pub mod Reading

@@ -4,19 +4,19 @@ use Rattle.std.specs.Io.KnownBytes.{Appends, IsAtEnd}
 use Rattle.lt_io.specs.Cause.{Rose, AppendsFront}
 use Rattle.lt_io.specs.declared.reading.TheConstants.{INPUT_LIMIT}
 use Rattle.lt_serve.specs.Status.{refusal_text}
-use Rattle.lt_serve.specs.Session.{IsBuilt, HasOtherForm, IsText}
+use Rattle.lt_serve.specs.Session.{IsBuilt, HasOtherLine, IsText}
 use Rattle.lt_serve.specs.declared.status.Status.{Status}
 use Rattle.lt_serve.specs.declared.status.Status.TheVariants.{Done, Usage, SourceFault, SinkFault, TooLong, NoMemory, NotYet}
 
--- an input within the limit whose lines all have a form that is built
+-- an input within the limit whose lines are one client's and ask for what is built
 pub record IsSessionInput (input : List ℕ) : Type 0 where
   pub within : length input ≤ INPUT_LIMIT
   pub built : IsBuilt input
 
--- an input within the limit whose line of this number is the first that has another form
+-- an input within the limit whose line of this number is the first that is another client's or asks for what isn't built
 pub record IsOtherInput (input : List ℕ) (line : ℕ) : Type 0 where
   pub within : length input ≤ INPUT_LIMIT
-  pub other : HasOtherForm input line
+  pub other : HasOtherLine input line
 
 -- which input may end so, where it is told; the other statuses are not the input's matter
 abbrev pub MayEnd : Status → List ℕ → Type 0

@@ -1,5 +1,5 @@
 -- The numbers of the statuses, and the line that each refusal writes.
-use Rattle.std.specs.Prelude.{⊤, ℕ, List, [], ◌∷◌, ◌++◌, codes, decimal}
+use Rattle.std.specs.Prelude.{⊤, ℕ, List, [], ◌++◌, codes, decimal}
 use Rattle.lt_lang.specs.Texts.{line_of}
 use Rattle.lt_serve.specs.declared.status.Status.{Status}
 use Rattle.lt_serve.specs.declared.status.Status.TheVariants.{Done, Usage, SourceFault, SinkFault, TooLong, NoMemory, NotYet}

@@ -3,6 +3,6 @@
 pub enum Answered {
     /// The text that answers it.
     Text(Vec<u8>),
-    /// The first line that has a form which isn't built yet, counted from 0.
+    /// The first line that is another client's or asks for what isn't built yet, counted from 0.
     Other { line: u64 },
 }

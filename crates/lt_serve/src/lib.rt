@@ -2,6 +2,7 @@
 #![tactic(auto)]
 
 mod answered;
+mod opening;
 mod output;
 mod session;
 mod status;

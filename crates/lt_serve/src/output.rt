@@ -1,12 +1,12 @@
 //! What a run writes: the one line of a refusal, or the text of a session.
 ghost use Rattle.std.specs.Prelude.{◌≡◌, ◌≤◌, IfOk, length};
 ghost use Rattle.lt_serve.specs.Status.{HasFixedLine, refusal_text};
-ghost use Rattle.lt_serve.specs.Session.{HasOtherForm, IsText};
+ghost use Rattle.lt_serve.specs.Session.{IsBuilt, HasOtherLine, IsText};
 ghost use Rattle.lt_serve.specs.Output.{Answers, WritesAlone};
 
 use crate::Status;
 use crate::answered::Answered;
-use crate::session::session;
+use crate::session::session_over;
 use itoa::Buffer;
 use lt_io::{INPUT_LIMIT, Sink, SinkFault, write_all};
 use lt_rec::NoMemory;
@@ -57,7 +57,7 @@ fn not_yet_line(alloc: Global, line: u64) -> Result<Vec<u8>, NoMemory>
 
 fn refuse_line<K: Sink>(alloc: Global, sink: &mut K, input: &[u8], line: u64) -> Status
     requires within { length input.now ≤ INPUT_LIMIT }
-    requires other { HasOtherForm input.now line }
+    requires other { HasOtherLine input.now line }
     ensures { Answers result input.now (K.held sink.old) (K.held sink.new) (K.faults sink.old) (K.faults sink.new) }
 {
     match not_yet_line(alloc, line) {
@@ -71,6 +71,7 @@ fn refuse_line<K: Sink>(alloc: Global, sink: &mut K, input: &[u8], line: u64) ->
 
 fn write_session<K: Sink>(sink: &mut K, input: &[u8], text: &[u8]) -> Status
     requires within { length input.now ≤ INPUT_LIMIT }
+    requires built { IsBuilt input.now }
     requires text { IsText input.now text.now }
     ensures { Answers result input.now (K.held sink.old) (K.held sink.new) (K.faults sink.old) (K.faults sink.new) }
 {
@@ -80,12 +81,12 @@ fn write_session<K: Sink>(sink: &mut K, input: &[u8], text: &[u8]) -> Status
     }
 }
 
-/// Answers an input that was read to its end: its session's text, or the least line that isn't built yet.
+/// Answers an input that was read to its end: its session's text, or the first line that can't be answered yet.
 pub fn answer<K: Sink>(alloc: Global, sink: &mut K, input: &[u8]) -> Status
     requires { length input.now ≤ INPUT_LIMIT }
     ensures { Answers result input.now (K.held sink.old) (K.held sink.new) (K.faults sink.old) (K.faults sink.new) }
 {
-    match session(alloc, input) {
+    match session_over(alloc, input) {
         Ok(Answered::Text(text)) => write_session(sink, input, text.as_slice()),
         Ok(Answered::Other { line }) => refuse_line(alloc, sink, input, line),
         Err(NoMemory) => refuse(sink, Status::NoMemory),

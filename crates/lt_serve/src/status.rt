@@ -13,7 +13,7 @@ pub enum Status {
     TooLong,
     /// Memory ran out.
     NoMemory,
-    /// A line of the input has a form that isn't built yet; `line` counts from 0 over all lines.
+    /// A line of the input is a second client's or asks for what isn't built yet; `line` counts from 0 over all lines.
     NotYet { line: u64 },
 }
 

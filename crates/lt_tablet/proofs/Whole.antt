@@ -18,8 +18,10 @@ use Rattle.lt_block.proofs.Blocks.{all_len}
 use Rattle.lt_tablet.specs.Spelling.{Entry, Totals, Parts, IsTablet, header, mark, told, numbers, entries_of, key_spelled, entry_spelled, end_of, blocks_spelled, index_spelled, hashes_from, filter_of, footer_spelled, parts_of, totals_of, file_of}
 use Rattle.lt_tablet.specs.Reading.{holds, footer_place, footer_at, header_at, entries_at, index_at, blocks_at, totals_at, filter_at, same_at, between, file_at}
 use Rattle.lt_tablet.proofs.Asked.{done, holds_ok, holds_again, same_bytes, bytes_same, same_at_ok, same_at_again, Short}
-use Rattle.lt_tablet.proofs.Footer.{Lie, FooterFound, footer_takes, footer_again}
-use Rattle.lt_tablet.proofs.Index.{IsEntries, EntriesFound, AreSmall, entries_take, entries_again, ends}
+use Rattle.lt_tablet.proofs.FooterText.{FooterFound, footer_takes, footer_again}
+use Rattle.lt_tablet.specs.Entries.{IsEntries}
+use Rattle.lt_tablet.specs.Phases.{Lie}
+use Rattle.lt_tablet.proofs.IndexText.{EntriesFound, AreSmall, entries_take, entries_again, ends}
 use Rattle.lt_tablet.proofs.Blocks.{BlocksFound, blocks_take, blocks_again, length_entries, end_of_blocks, block_len, entries_are, entries_small}
 use Rattle.lt_tablet.proofs.Sums.{Within, all_lawful, all_of, all_within, greatest_below, least_below}
 
@@ -157,22 +159,22 @@ found_file t listed foot bytes p es blocks is_foot footer headed index found sum
     back : (n m : ℕ) → n ≡ m → 8 < m → 8 + (n - 8) ≡ m
     back n m e lt = omega (arith, e, lt)
 
-abbrev ending : (foot : ℕ) → Totals → List ℕ → Parts → List (List Record) → Result (List (List Record)) ℕ
+abbrev pub ending : (foot : ℕ) → Totals → List ℕ → Parts → List (List Record) → Result (List (List Record)) ℕ
 ending foot t bytes p blocks = filter_at foot p (between p.filter foot bytes) (filter_of (joined blocks)) >>= λ _. Ok blocks
 
-abbrev from_blocks : (foot : ℕ) → Totals → List ℕ → Parts → List (List Record) → Result (List (List Record)) ℕ
+abbrev pub from_blocks : (foot : ℕ) → Totals → List ℕ → Parts → List (List Record) → Result (List (List Record)) ℕ
 from_blocks foot t bytes p blocks = totals_at foot t (totals_of (joined blocks)) >>= λ _. ending foot t bytes p blocks
 
-abbrev from_index : (foot : ℕ) → Totals → List ℕ → Parts → List Entry → Result (List (List Record)) ℕ
+abbrev pub from_index : (foot : ℕ) → Totals → List ℕ → Parts → List Entry → Result (List (List Record)) ℕ
 from_index foot t bytes p es = blocks_at t es (drop 8 bytes) >>= from_blocks foot t bytes p
 
-abbrev from_header : (foot : ℕ) → Totals → List ℕ → Parts → Result (List (List Record)) ℕ
+abbrev pub from_header : (foot : ℕ) → Totals → List ℕ → Parts → Result (List (List Record)) ℕ
 from_header foot t bytes p = index_at p (between p.index p.filter bytes) >>= from_index foot t bytes p
 
-abbrev from_footer : (foot : ℕ) → Totals → List ℕ → Parts → Result (List (List Record)) ℕ
+abbrev pub from_footer : (foot : ℕ) → Totals → List ℕ → Parts → Result (List (List Record)) ℕ
 from_footer foot t bytes p = header_at bytes >>= λ _. from_header foot t bytes p
 
-abbrev from_place : Totals → List ℕ → ℕ → Result (List (List Record)) ℕ
+abbrev pub from_place : Totals → List ℕ → ℕ → Result (List (List Record)) ℕ
 from_place t bytes foot = footer_at t foot (drop foot bytes) >>= from_footer foot t bytes
 
 pub file_takes : (t : Totals) (listed : ℕ) (bytes : List ℕ) (blocks : List (List Record)) → IsBytes bytes → file_at t listed bytes ≡ Ok blocks → FileFound t listed bytes blocks

@@ -41,12 +41,6 @@ first_key (r ∷ recs) = r.key
 abbrev pub entry_of : ℕ → List Record → Entry
 entry_of at recs = record { offset = at; len = length (spelling recs); count = length recs; first = first_key recs; last = last_key [] recs }
 
--- Entries of blocks that lie one after the other from `start` on, and whose keys rise: the first key is above the last one
--- before, and the last isn't below the first.
-abbrev pub Follow : ℕ → List ℕ → List Entry → Type 0
-Follow start last [] = Unit {0}
-Follow start last (e ∷ es) = ((e.offset ≡ start) × (is_less last e.first ≡ true) × (is_less e.last e.first ≡ false)) × Follow (start + e.len) e.last es
-
 -- where the last of the blocks ends
 abbrev pub end_of : ℕ → List Entry → ℕ
 end_of start [] = start

@@ -2,6 +2,20 @@
 //! bytes are one and agree with its listing; else the first broken rule is named by its offset.
 #![tactic(auto)]
 
+mod block;
+mod errors;
+mod footer;
+mod index;
 mod laws;
+mod loading;
+mod records;
+mod survey;
+mod tablet;
+mod totals;
 
+pub use errors::{ReadError, WriteError};
 pub use laws::file_laws;
+pub use tablet::Tablet;
+
+#[cfg(test)]
+mod tests;

@@ -1,7 +1,7 @@
 use Rattle.std.proofs.Common.{◌≡◌, ◌≢◌, ℕ, ◌+◌, ◌<◌, ◌≤◌, Bool, true, length, take, get_or, sym, subst, ap, ◌∙◌, arith}
 use Rattle.std.specs.List.Sorted.{IsPermutation}
-use Rattle.lt_deps.specs.Kept.{StandsFor}
-use Rattle.lt_deps.proofs.Least.{closure_of, alone}
+use Rattle.lt_deps.specs.Kept.{StandsFor, AreDistinct}
+use Rattle.lt_deps.proofs.Least.{closure_of, alone, front_distinct}
 use Rattle.lt_deps.proofs.deps.Deps.closure.Goals as goal
 
 pub returns-in_default : goal.returns-in_default
@@ -27,8 +27,10 @@ returns c = record {
       let closed : (j : ℕ) → j < count → j + get_or i.ahead.items j 0 < count = subst (λ xs. (j : ℕ) → j < count → j + get_or xs j 0 < count) slice c.front_of-count.ensures.closed in
       let least : (p : ℕ → Bool) → ((k : ℕ) → k ≤ place → p k ≡ true) → ((k j : ℕ) → j < length i.ahead.items → p j ≡ true → k ≤ j + get_or i.ahead.items j 0 → p k ≡ true) → (k : ℕ) → k < count → p k ≡ true =
       subst (λ xs. (p : ℕ → Bool) → ((k : ℕ) → k ≤ place → p k ≡ true) → ((k j : ℕ) → j < length xs → p j ≡ true → k ≤ j + get_or xs j 0 → p k ≡ true) → (k : ℕ) → k < count → p k ≡ true) slice c.front_of-count.ensures.least in
-      let front : c.in_ok-found.found.items ≡ take count i.tablets.items = c.in_ok-found.ensures.items ∙ c.split_at.ensures.front ∙ ap (take count) c.as_slice-3.ensures.value in
-      closure_of i.tablets.items i.ahead.items i.last notes (subst (λ v. StandsFor v notes) (sym c.self.view_is) h)
-      place count c.args.tablet c.sort.new.self.items paired held here (omega arith) c.front_of-count.ensures.holds closed least
-      (subst (λ xs. IsPermutation xs c.sort.new.self.items) front c.sort.ensures.permutation) c.in_ok-sort.ensures.sorted;
+      let front : c.split_at.result.0.now ≡ take count i.tablets.items = c.split_at.ensures.front ∙ ap (take count) c.as_slice-3.ensures.value in
+      let k = subst (λ v. StandsFor v notes) (sym c.self.view_is) h in
+      let rises = c.in_ok-found.ensures.rising (subst AreDistinct (sym front) (front_distinct i.tablets.items count k.distinct)) in
+      closure_of i.tablets.items i.ahead.items i.last notes k
+      place count c.args.tablet c.in_ok-found.found.items paired held here (omega arith) c.front_of-count.ensures.holds closed least
+      (subst (λ xs. IsPermutation xs c.in_ok-found.found.items) front c.in_ok-found.ensures.same) rises;
 }

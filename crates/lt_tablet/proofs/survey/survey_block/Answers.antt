@@ -1,0 +1,56 @@
+use Rattle.std.proofs.Common.{◌≡◌, ◌≤◌, ◌+◌, ◌-◌, ◌++◌, ◌∷◌, ℕ, List, [], Err, length, ap, sym, ◌∙◌, append_assoc, arith}
+use Rattle.std.specs.Prelude.{nat_eq, Some}
+use Rattle.std.proofs.lemmas.List.{append-nil}
+use Rattle.std.proofs.lemmas.Result.{err_from_is_err_and}
+use Rattle.lt_rec.specs.Record.{stored_len}
+use Rattle.lt_tablet.specs.Spelling.{Entry}
+use Rattle.lt_tablet.specs.Reading.{own_records_at, own_block_at}
+use Rattle.lt_tablet.specs.Surveying.{last_of, found_in}
+use Rattle.lt_tablet.proofs.Loops.{records_start, block_stop, block_done, block_read, records_next, checks_end}
+use Rattle.lt_tablet.proofs.Stems.{last_of_push}
+use Rattle.lt_tablet.proofs.SoFar.{own_last}
+use Rattle.lt_tablet.proofs.survey.survey_block.Goals as goal
+
+pub loop-done-init : goal.loop-done-init
+loop-done-init c = (
+  omega (arith, c.in_ok-count.ensures.len),
+  [],
+  records_start c.args.totals.now c.args.entry.now c.in_ok-count.count (c.in_ok-count.count - 0) (length c.args.bytes.now - length c.in_ok-count.behind.now) c.in_ok-count.behind.now (omega arith) (omega (arith, c.in_ok-count.ensures.len)),
+  λ recs before old. (before ∙ ap last_of (sym (append-nil recs)), old ∙ ap found_in (sym (append-nil recs))),
+)
+
+pub returns-in_err-rec-clause-fault : goal.returns-in_err-rec-clause-fault
+returns-in_err-rec-clause-fault c =
+    let p = err_from_is_err_and c.from_residual-in_err-rec.result c.from_residual-in_err-rec.ensures.1 in
+    rw (p.1, p.2) (block_stop c.loop-done.invariant.1 c.args.totals.now c.args.entry.now c.args.bytes.now c.entry.inside.count c.in_ok-count.count c.in_ok-count.behind.now c.in_ok-holds.field-0 c.loop-done.done (c.in_ok-count.count - c.loop-done.done - 1) (length c.args.bytes.now - length c.loop-done.rest.now) c.in_err-rec.field-0.0.at c.loop-done.last.now c.loop-done.rest.now (ap (λ (v : Entry). v.count) c.entry.view_is) (omega arith) c.in_ok-count.ensures.exact c.in_ok-holds.ensures.exact c.loop-done-test.true c.in_err-rec.ensures.exact c.loop-done.invariant.2)
+
+pub loop-done-preserved : goal.loop-done-preserved
+loop-done-preserved c =
+    let front = c.loop-done.invariant.1 in
+    let rec = c.in_ok-rec.rec in
+    let len : stored_len c.in_ok-rec.rec + length c.in_ok-rec.after.now ≡ length c.loop-done.rest.now = c.in_ok-rec.ensures.len in (
+      omega (arith, len, c.loop-done.invariant.0),
+      c.loop-done.invariant.1 ++ c.in_ok-rec.rec ∷ [],
+      records_next c.loop-done.invariant.1 c.args.totals.now c.args.entry.now c.in_ok-count.count c.loop-done.done (c.in_ok-count.count - c.loop-done.done - 1) (length c.args.bytes.now - length c.loop-done.rest.now) (length c.args.bytes.now - length c.in_ok-rec.after.now) c.loop-done.last.now c.key-last.result.now c.loop-done.rest.now c.in_ok-rec.rec c.in_ok-rec.after.now (own_records_at c.args.totals.now c.args.entry.now c.in_ok-count.count 4 [] c.in_ok-count.behind.now) c.loop-done-test.true (omega arith) (omega (arith, len, c.loop-done.invariant.0)) c.key-last.ensures c.in_ok-rec.ensures.exact c.loop-done.invariant.2,
+      λ recs before old.
+          let so_far = c.loop-done.invariant.3 recs before old in (
+            ap (λ (k : List ℕ). Some k) c.key-last.ensures ∙ (sym (last_of_push (recs ++ front) rec) ∙ ap last_of (append_assoc recs front (rec ∷ []))),
+            c.in_ok-add.ensures (recs ++ front) rec (sym c.key.ensures) (sym c.ts.ensures) (sym c.seq.ensures) so_far.0 so_far.1 ∙ ap found_in (append_assoc recs front (rec ∷ [])),
+          ),
+    )
+
+pub returns-in_err-holds-2-clause-fault : goal.returns-in_err-holds-2-clause-fault
+returns-in_err-holds-2-clause-fault c =
+    let p = err_from_is_err_and c.from_residual-in_err-holds-2.result c.from_residual-in_err-holds-2.ensures.1 in
+    rw (p.1, p.2) (checks_end (Err c.in_err-holds-2.field-0.0) c.loop-done.invariant.1 c.is_empty.result (nat_eq (length c.loop-done.rest.now) 0) (length c.args.bytes.now - length c.loop-done.rest.now) (own_block_at c.args.totals.now c.args.entry.now c.args.bytes.now) c.is_empty.ensures c.in_err-holds-2.ensures.exact
+    (block_done c.loop-done.invariant.1 c.args.totals.now c.args.entry.now c.args.bytes.now c.entry.inside.count c.in_ok-count.count c.in_ok-count.behind.now c.in_ok-holds.field-0 c.loop-done.done (length c.args.bytes.now - length c.loop-done.rest.now) c.loop-done.last.now c.loop-done.rest.now (ap (λ (v : Entry). v.count) c.entry.view_is) c.in_ok-count.ensures.exact c.in_ok-holds.ensures.exact c.loop-done-test.false c.loop-done.invariant.2))
+
+pub returns-clause-found : goal.returns-clause-found
+returns-clause-found c = λ recs before old.
+    let read = block_read c.loop-done.invariant.1 c.is_empty.result (nat_eq (length c.loop-done.rest.now) 0) (length c.args.bytes.now - length c.loop-done.rest.now) c.in_ok-holds-2.field-0 (own_block_at c.args.totals.now c.args.entry.now c.args.bytes.now) c.is_empty.ensures c.in_ok-holds-2.ensures.exact
+    (block_done c.loop-done.invariant.1 c.args.totals.now c.args.entry.now c.args.bytes.now c.entry.inside.count c.in_ok-count.count c.in_ok-count.behind.now c.in_ok-holds.field-0 c.loop-done.done (length c.args.bytes.now - length c.loop-done.rest.now) c.loop-done.last.now c.loop-done.rest.now (ap (λ (v : Entry). v.count) c.entry.view_is) c.in_ok-count.ensures.exact c.in_ok-holds.ensures.exact c.loop-done-test.false c.loop-done.invariant.2) in (
+      c.loop-done.invariant.1,
+      read,
+      (c.loop-done.invariant.3 recs before old).1,
+      λ some. own_last c.args.totals.now c.args.entry.now c.args.bytes.now c.loop-done.invariant.1 (λ i. omega (arith, c.type_inv.bytes i)) c.requires some read,
+    )

@@ -1,0 +1,56 @@
+-- A tablet file that is being written, and the records that were written to it.
+use Rattle.std.specs.Prelude.{◌≡◌, ℕ, ◌+◌, ◌<◌, ◌≤◌, Bool, true, List, [], ◌∷◌, ◌++◌, length}
+use Rattle.std.specs.List.{AllByRecursion}
+use Rattle.lt_rec.specs.Periods.{Stretch, InPeriod}
+use Rattle.lt_rec.specs.Record.{Record, IsRecord}
+use Rattle.lt_rec.specs.Records.{joined}
+use Rattle.lt_rec.specs.declared.listed.Listed.{Listed}
+use Rattle.lt_block.specs.Spelling.{IsBlock, Rises, last_key}
+use Rattle.lt_tablet.specs.Spelling.{Entry, Totals, header, entries_of, blocks_spelled, totals_of, first_key}
+use Rattle.lt_tablet.specs.Surveying.{Found, found_in}
+use Rattle.lt_tablet.specs.Loaded.{Loaded, listed_totals, records_in}
+
+-- what is kept: the file's number and period, the entries of the blocks that went out, where the next one will begin, the
+-- records of the one that fills, what was found of all records, the first key of the block that fills, the last key of
+-- all, and the bytes that went out
+pub record Writing : Type 0 where
+  pub number : ℕ
+  pub period : Stretch
+  pub index : List Entry
+  pub offset : ℕ
+  pub filling : List Record
+  pub found : Found
+  pub first : List ℕ
+  pub last : List ℕ
+  pub bytes : List ℕ
+
+-- these blocks went out, and the records of one more fill
+pub record IsCut (told : Bool) (w : Writing) (blocks : List (List Record)) (recs : List Record) : Type 0 where
+  pub parts : recs ≡ joined blocks ++ w.filling
+  pub each : AllByRecursion IsBlock blocks
+  pub lawful : AllByRecursion IsRecord recs
+  pub rising : Rises [] recs
+  pub timed : AllByRecursion (λ r. InPeriod w.period r.ts) recs
+  pub index_is : w.index ≡ entries_of 8 blocks
+  pub offset_is : w.offset ≡ 8 + length (blocks_spelled blocks)
+  pub found_is : w.found ≡ found_in recs
+  pub first_is : 0 < length w.filling → w.first ≡ first_key w.filling
+  pub last_is : w.last ≡ last_key [] recs
+  pub bytes_are : told ≡ true → w.bytes ≡ header ++ blocks_spelled blocks
+
+-- these records were written so far
+pub record Wrote (told : Bool) (w : Writing) (recs : List Record) : Type 0 where
+  pub blocks : List (List Record)
+  pub cut : IsCut told w blocks recs
+
+-- a listing names its tablet's file, and a period that has the least and the greatest timestamp
+pub record IsListing (listed : Listed) (number : ℕ) (period : Stretch) : Type 0 where
+  pub number_is : listed.file ≡ number
+  pub period_is : listed.period ≡ period
+  pub low_is : InPeriod period listed.low
+  pub high_is : InPeriod period listed.high
+
+-- the tablet's file has these records, and its listing tells their totals
+pub record HasRecords (told : Bool) (t : Loaded) (recs : List Record) : Type 0 where
+  pub totals : listed_totals t.listed ≡ totals_of recs
+  pub file : told ≡ true → records_in t ≡ recs

@@ -1,0 +1,144 @@
+//! One pass over a block: are its records those that the tablet asks for, and what are they together with those before?
+ghost use Rattle.std.specs.Prelude.{◌≡◌, ◌<◌, ◌≤◌, ◌++◌, ◌∷◌, [], List, Ok, Some, OnOk, IfErr, option_copied, option_map, length, if◌then◌else◌};
+ghost use Rattle.lt_rec.specs.Record.{Record, stem_of};
+ghost use Rattle.lt_bloom.specs.Hash.{hash_of};
+ghost use Rattle.lt_block.specs.Reading.{Fails, block_at};
+ghost use Rattle.lt_tablet.specs.Spelling.{differs};
+ghost use Rattle.lt_tablet.specs.Reading.{own_block_at};
+ghost use Rattle.lt_tablet.specs.Surveying.{Checks, IsWithin, last_of, found_in};
+
+use crate::footer::holds;
+use crate::index::IndexEntry;
+use crate::records::{own_record_of, stem_of};
+use crate::totals::Totals;
+use lt_block::{BlockError, Fault, RecView, u32_at};
+use lt_bloom::stem_hash;
+use lt_rec::NoMemory;
+use std::alloc::Global;
+use std::marker::Model;
+
+/// What was found of the records so far: their totals, and a hash for each whose stem differs from that of the one before.
+#[derive(Drop)]
+pub struct Survey {
+    totals: Totals,
+    hashes: Vec<u64>,
+}
+
+impl Model for Survey {
+    ghost use Rattle.lt_tablet.specs.Surveying.{Found};
+
+    ghost Value = { Found };
+
+    ghost view = { λ s. record { totals = s.totals; hashes = s.hashes.items } };
+}
+
+impl Survey {
+    pub fn new(alloc: Global) -> Survey
+        ensures { result ≡ found_in [] }
+    {
+        Survey {
+            totals: Totals::none(),
+            hashes: Vec::new(alloc),
+        }
+    }
+
+    pub fn totals(&self) -> &Totals
+        ensures { result.now ≡ self.now.totals }
+    {
+        &self.totals
+    }
+
+    pub fn hashes(&self) -> &[u64]
+        ensures { result.now ≡ self.now.hashes }
+    {
+        self.hashes.as_slice()
+    }
+
+    /// One record more, whose key and timestamp and number these are; `before` is the key of the one before it.
+    pub fn add(
+        &mut self,
+        before: Option<&[u8]>,
+        key: &[u8],
+        ts: u64,
+        seq: u64,
+    ) -> Result<(), NoMemory>
+        ensures { OnOk result ((recs : List Record) (r : Record) → r.key ≡ key.now → r.ts ≡ ts → r.seq ≡ seq → option_copied before.entry ≡ last_of recs → self.old ≡ found_in recs → self.new ≡ found_in (recs ++ r ∷ [])) }
+    {
+        let stem = stem_of(key);
+        note_stem(&mut self.hashes, before, stem)?;
+        self.totals.add(ts, seq)
+    }
+}
+
+/// A hash for a stem that differs from that of the key before it.
+fn note_stem(hashes: &mut Vec<u64>, before: Option<&[u8]>, stem: &[u8]) -> Result<(), NoMemory>
+    ensures { OnOk result (hashes.new.items ≡ hashes.old.items ++ (if differs (option_map stem_of (option_copied before.entry)) stem.now then hash_of stem.now ∷ [] else [])) }
+{
+    if is_new(before, stem) {
+        hashes.push(stem_hash(stem))?;
+    }
+    Ok(())
+}
+
+/// There is no key before, or its stem is another one.
+fn is_new(before: Option<&[u8]>, stem: &[u8]) -> bool
+    ensures { result ≡ differs (option_map stem_of (option_copied before.entry)) stem.now }
+{
+    match before {
+        Some(key) => stem_of(key) != stem,
+        None => true,
+    }
+}
+
+/// The records of an entry's block are those of a block, and meet what the tablet asks; else the offset of the first
+/// fault, in the block. Takes no memory.
+#[tactic(auto, unfolding(crate::specs::Reading::own_block_at))]
+pub fn check_block(totals: &Totals, entry: &IndexEntry, bytes: &[u8]) -> Result<(), Fault>
+    requires { length bytes.now ≤ 65536 }
+    ensures exact { Checks result (own_block_at totals.now entry.now bytes.now) }
+    ensures within { IfErr result (λ fault. fault.at ≤ length bytes.now) }
+    // They are a block's.
+    ensures block { OnOk result ((recs : List Record) → 0 < entry.now.count → own_block_at totals.now entry.now bytes.now ≡ Ok recs → block_at bytes.now ≡ Ok recs) }
+{
+    let (count, behind) = u32_at(0, bytes)?;
+    holds(entry.count == count, 0)?;
+    let mut last: &[u8] = &[];
+    let mut rest = behind;
+    for done in 0..count {
+        let at = (bytes.len() - rest.len()) as u64;
+        let (rec, after) = own_record_of(totals, entry, count - done - 1, at, last, rest)?;
+        last = rec.key();
+        rest = after;
+    }
+    holds(rest.is_empty(), (bytes.len() - rest.len()) as u64)
+}
+
+/// The same, and the records are surveyed; `before` is the last key of the block before, or there is none.
+#[tactic(auto, unfolding(crate::specs::Reading::own_block_at))]
+pub fn survey_block(
+    totals: &Totals,
+    entry: &IndexEntry,
+    before: Option<&[u8]>,
+    bytes: &[u8],
+    survey: &mut Survey,
+) -> Result<(), BlockError>
+    requires { length bytes.now ≤ 65536 }
+    ensures found { OnOk result ((recs : List Record) → option_copied before.entry ≡ last_of recs → survey.old ≡ found_in recs → (own : List Record) × (own_block_at totals.now entry.now bytes.now ≡ Ok own) × (survey.new ≡ found_in (recs ++ own)) × (0 < entry.now.count → last_of own ≡ Some entry.now.last)) }
+    ensures fault { IfErr result (λ why. Fails why (own_block_at totals.now entry.now bytes.now)) }
+    ensures within { IfErr result (λ why. IsWithin (length bytes.now) why) }
+{
+    let (count, behind) = u32_at(0, bytes)?;
+    holds(entry.count == count, 0)?;
+    let mut last: &[u8] = &[];
+    let mut known = before;
+    let mut rest = behind;
+    for done in 0..count {
+        let at = (bytes.len() - rest.len()) as u64;
+        let (rec, after) = own_record_of(totals, entry, count - done - 1, at, last, rest)?;
+        survey.add(known, rec.key(), rec.ts(), rec.seq())?;
+        last = rec.key();
+        known = Some(last);
+        rest = after;
+    }
+    Ok(holds(rest.is_empty(), (bytes.len() - rest.len()) as u64)?)
+}

@@ -1,0 +1,279 @@
+ghost use Rattle.std.specs.Prelude.{◌≡◌, IfOk};
+
+use super::*;
+use lt_io::{Device, DeviceError};
+use lt_memdev::{Fail as Failing, MemDevice, MemDir, MemReader, Op};
+use lt_rec::{Cut, Listed, Octets, Period, RawBox};
+use std::alloc::Global;
+use std::test::*;
+
+// One record: key 0000000000000001, no body, number 0, version 0.
+static LEAST: [u8; 170] = [
+    76, 84, 84, 65, 66, 76, 69, 49, 0, 0, 0, 1, 0, 0, 0, 8, 0, 0, 0, 0, //
+    0, 0, 0, 0, 0, 0, 0, 0, 0, 0, 0, 0, 0, 0, 0, 0, 0, 0, 0, 1, //
+    0, 0, 0, 0, 0, 0, 0, 8, 0, 0, 0, 32, 0, 0, 0, 1, 0, 0, 0, 8, //
+    0, 0, 0, 0, 0, 0, 0, 1, 0, 0, 0, 8, 0, 0, 0, 0, 0, 0, 0, 1, //
+    56, 198, 0, 0, 0, 0, 0, 0, 0, 40, 0, 0, 0, 0, 0, 0, 0, 1, 0, 0, //
+    0, 0, 0, 0, 0, 80, 0, 0, 0, 0, 0, 0, 0, 2, 0, 0, 0, 0, 0, 0, //
+    0, 1, 0, 0, 0, 0, 0, 0, 0, 1, 0, 0, 0, 0, 0, 0, 0, 1, 0, 0, //
+    0, 0, 0, 0, 0, 0, 0, 0, 0, 0, 0, 0, 0, 0, 0, 0, 0, 0, 0, 0, //
+    0, 0, 76, 84, 84, 65, 66, 69, 78, 68, //
+];
+
+// One record: its key has 19 bytes, its body is 10 in 8 bytes.
+static ONE_ROW: [u8; 211] = [
+    76, 84, 84, 65, 66, 76, 69, 49, 0, 0, 0, 1, 0, 0, 0, 19, 0, 0, 0, 8, //
+    0, 0, 0, 0, 0, 0, 0, 0, 0, 0, 0, 0, 120, 0, 0, 128, 0, 0, 0, 0, //
+    0, 0, 1, 0, 5, 84, 61, 247, 41, 192, 0, 0, 0, 0, 0, 0, 0, 0, 10, 0, //
+    0, 0, 0, 0, 0, 0, 8, 0, 0, 0, 51, 0, 0, 0, 1, 0, 0, 0, 19, 120, //
+    0, 0, 128, 0, 0, 0, 0, 0, 0, 1, 0, 5, 84, 61, 247, 41, 192, 0, 0, 0, //
+    0, 19, 120, 0, 0, 128, 0, 0, 0, 0, 0, 0, 1, 0, 5, 84, 61, 247, 41, 192, //
+    0, 165, 82, 0, 0, 0, 0, 0, 0, 0, 59, 0, 0, 0, 0, 0, 0, 0, 1, 0, //
+    0, 0, 0, 0, 0, 0, 121, 0, 0, 0, 0, 0, 0, 0, 2, 0, 0, 0, 0, 0, //
+    0, 0, 1, 0, 5, 84, 61, 247, 41, 192, 0, 0, 5, 84, 61, 247, 41, 192, 0, 0, //
+    0, 0, 0, 0, 0, 0, 0, 0, 0, 0, 0, 0, 0, 0, 0, 0, 0, 0, 0, 0, //
+    0, 0, 0, 76, 84, 84, 65, 66, 69, 78, 68, //
+];
+
+// Where each of those bytes, with all its bits turned, is named; 255 where the file is read all the same.
+static PLACES: [u8; 211] = [
+    0, 0, 0, 0, 0, 0, 0, 0, 8, 8, 8, 8, 12, 12, 12, 32, 16, 16, 16, 51, //
+    12, 12, 12, 12, 12, 12, 12, 12, 255, 255, 255, 255, 12, 12, 12, 12, 12, 12, 12, 12, //
+    12, 12, 12, 12, 12, 12, 12, 12, 12, 12, 12, 255, 255, 255, 255, 255, 255, 255, 255, 59, //
+    59, 59, 59, 59, 59, 59, 59, 67, 67, 67, 67, 8, 8, 8, 8, 75, 75, 75, 75, 98, //
+    98, 98, 12, 98, 98, 98, 98, 98, 98, 98, 98, 98, 98, 98, 12, 98, 12, 98, 98, 98, //
+    98, 98, 12, 12, 12, 98, 12, 12, 12, 12, 12, 12, 12, 12, 12, 12, 12, 98, 12, 98, //
+    12, 121, 122, 123, 123, 123, 123, 123, 123, 123, 123, 121, 121, 121, 121, 121, 121, 121, 121,
+    139, //
+    139, 139, 139, 139, 139, 139, 139, 147, 147, 147, 147, 147, 147, 147, 147, 155, 155, 155, 155,
+    155, //
+    155, 155, 155, 163, 163, 163, 163, 163, 163, 163, 163, 171, 171, 171, 171, 171, 171, 171, 171,
+    179, //
+    179, 179, 179, 179, 179, 179, 179, 187, 187, 187, 187, 187, 187, 187, 187, 195, 195, 195, 195,
+    195, //
+    195, 195, 195, 203, 203, 203, 203, 203, 203, 203, 203, //
+];
+
+// Three blocks of one, two and one records: stems a, b, b and c, timestamps 5 to 8, numbers 0 to 3.
+static THREE: [u8; 355] = [
+    76, 84, 84, 65, 66, 76, 69, 49, 0, 0, 0, 1, 0, 0, 0, 9, 0, 0, 0, 0, //
+    0, 0, 0, 0, 0, 0, 0, 0, 0, 0, 0, 0, 97, 0, 0, 0, 0, 0, 0, 0, //
+    5, 0, 0, 0, 2, 0, 0, 0, 9, 0, 0, 0, 1, 0, 0, 0, 0, 0, 0, 0, //
+    1, 0, 0, 0, 0, 98, 0, 0, 0, 0, 0, 0, 0, 6, 120, 0, 0, 0, 9, 0, //
+    0, 0, 0, 0, 0, 0, 0, 0, 0, 0, 2, 0, 0, 0, 0, 98, 0, 0, 0, 0, //
+    0, 0, 0, 7, 0, 0, 0, 1, 0, 0, 0, 9, 0, 0, 0, 0, 0, 0, 0, 0, //
+    0, 0, 0, 3, 0, 0, 0, 0, 99, 0, 0, 0, 0, 0, 0, 0, 8, 0, 0, 0, //
+    0, 0, 0, 0, 8, 0, 0, 0, 33, 0, 0, 0, 1, 0, 0, 0, 9, 97, 0, 0, //
+    0, 0, 0, 0, 0, 5, 0, 0, 0, 9, 97, 0, 0, 0, 0, 0, 0, 0, 5, 0, //
+    0, 0, 0, 0, 0, 0, 41, 0, 0, 0, 63, 0, 0, 0, 2, 0, 0, 0, 9, 98, //
+    0, 0, 0, 0, 0, 0, 0, 6, 0, 0, 0, 9, 98, 0, 0, 0, 0, 0, 0, 0, //
+    7, 0, 0, 0, 0, 0, 0, 0, 104, 0, 0, 0, 33, 0, 0, 0, 1, 0, 0, 0, //
+    9, 99, 0, 0, 0, 0, 0, 0, 0, 8, 0, 0, 0, 9, 99, 0, 0, 0, 0, 0, //
+    0, 0, 8, 97, 48, 12, 134, 0, 0, 0, 0, 0, 0, 0, 137, 0, 0, 0, 0, 0, //
+    0, 0, 3, 0, 0, 0, 0, 0, 0, 1, 7, 0, 0, 0, 0, 0, 0, 0, 4, 0, //
+    0, 0, 0, 0, 0, 0, 4, 0, 0, 0, 0, 0, 0, 0, 5, 0, 0, 0, 0, 0, //
+    0, 0, 8, 0, 0, 0, 0, 0, 0, 0, 0, 0, 0, 0, 0, 0, 0, 0, 3, 0, //
+    0, 0, 0, 0, 0, 0, 0, 76, 84, 84, 65, 66, 69, 78, 68, //
+];
+
+fn listing(bytes: u64, rows: u64, low: u64, high: u64, last: u64) -> Listed
+    ensures { result.file ≡ 1 }
+{
+    Listed {
+        file: 1,
+        rows,
+        bytes,
+        low,
+        high,
+        period: Period::new(0, Period::FOUR_HOURS),
+        first: 0,
+        last,
+    }
+}
+
+fn one_row(bytes: u64) -> Listed
+    ensures { result.file ≡ 1 }
+{
+    listing(bytes, 1, 1_500_000_000_000_000, 1_500_000_000_000_000, 0)
+}
+
+fn sealed(dev: &mut MemDevice, alloc: Global, bytes: &[u8]) -> Result<MemReader, DeviceError>
+    ensures { IfOk result (λ reader. reader.number ≡ 1) }
+{
+    let mut dir = MemDir::new(alloc)?;
+    let lent = MemDevice::lend(&mut dir, 1);
+    let mut pen = match dev.create(lent) {
+        Ok(pen) => pen,
+        Err((_, refused)) => return Err(refused),
+    };
+    dev.append(&mut pen, bytes)?;
+    dev.seal(pen)
+}
+
+/// What loading answers: nothing, or the refusal.
+fn refusal<V: Device>(
+    alloc: Global,
+    dev: &mut V,
+    reader: V::Reader,
+    listed: Listed,
+) -> Option<ReadError>
+    requires { V.reader_number reader ≡ listed.file }
+{
+    match Tablet::load(alloc, dev, reader, listed) {
+        Ok(_) => None,
+        Err(why) => Some(why),
+    }
+}
+
+/// The offset that is named, if the file is refused.
+fn place(alloc: Global, bytes: &[u8], listed: Listed) -> Result<Option<u64>, Fail>
+    requires { listed.file ≡ 1 }
+{
+    let mut dev = MemDevice::new(alloc, &[])?;
+    let reader = sealed(&mut dev, alloc, bytes).map_err(|_| "seal")?;
+    match refusal(alloc, &mut dev, reader, listed) {
+        None => Ok(None),
+        Some(ReadError::Bad { file: _, at }) => Ok(Some(at)),
+        Some(_) => Ok(Some(u64::MAX)),
+    }
+}
+
+fn flipped(alloc: Global, at: usize) -> Result<Vec<u8>, Fail> {
+    let mut bytes = Vec::from_slice(alloc, &ONE_ROW)?;
+    if let Some(byte) = bytes.get_mut(at) {
+        *byte ^= 0xff;
+    }
+    Ok(bytes)
+}
+
+#[test]
+fn the_least_file_is_read(rt: HostRuntime) -> Result<(), Fail> {
+    let found = place(rt.alloc(), &LEAST, listing(170, 1, 1, 1, 0))?;
+    assert_eq!(rt; found, None, "the file of 170 bytes");
+    Ok(())
+}
+
+#[test]
+fn each_byte_counts(rt: HostRuntime) -> Result<(), Fail> {
+    for (at, named) in PLACES.iter().enumerate() {
+        let bytes = flipped(rt.alloc(), at)?;
+        let found = place(rt.alloc(), bytes.as_slice(), one_row(211))?;
+        let wanted = if *named == 255 {
+            None
+        } else {
+            Some(u64::from(*named))
+        };
+        assert_eq!(rt; found, wanted, "byte {at} is turned");
+    }
+    Ok(())
+}
+
+#[test]
+fn a_cut_file_is_named_by_its_length(rt: HostRuntime) -> Result<(), Fail> {
+    for len in 0..211usize {
+        let (front, _) = ONE_ROW.split_at(len);
+        let found = place(rt.alloc(), front, one_row(211))?;
+        assert_eq!(rt; found, Some(len as u64), "cut to {len} bytes");
+    }
+    Ok(())
+}
+
+#[test]
+fn the_first_check_counts(rt: HostRuntime) -> Result<(), Fail> {
+    // Two bytes that are changed, and the place that is named.
+    let cases: [(usize, usize, u64); 6] = [
+        (0, 123, 123),
+        (0, 59, 0),
+        (8, 59, 59),
+        (8, 121, 8),
+        (121, 122, 121),
+        (131, 147, 147),
+    ];
+    for (first, second, wanted) in cases {
+        let mut bytes = flipped(rt.alloc(), first)?;
+        if let Some(byte) = bytes.get_mut(second) {
+            *byte ^= 0xff;
+        }
+        let found = place(rt.alloc(), bytes.as_slice(), one_row(211))?;
+        assert_eq!(rt; found, Some(wanted), "bytes {first} and {second}");
+    }
+    Ok(())
+}
+
+#[test]
+fn the_total_of_rows_is_counted(rt: HostRuntime) -> Result<(), Fail> {
+    let mut bytes = Vec::from_slice(rt.alloc(), &ONE_ROW)?;
+    if let Some(byte) = bytes.get_mut(162) {
+        *byte = 2;
+    }
+    let listed = listing(211, 2, 1_500_000_000_000_000, 1_500_000_000_000_000, 0);
+    let found = place(rt.alloc(), bytes.as_slice(), listed)?;
+    assert_eq!(rt; found, Some(155), "a footer and a listing of two rows");
+    Ok(())
+}
+
+fn range_in<V: Device>(
+    alloc: Global,
+    dev: &mut V,
+    reader: V::Reader,
+    area: &RawBox,
+) -> Option<(u64, u64)>
+    requires { V.reader_number reader ≡ 1 }
+{
+    match Tablet::load(alloc, dev, reader, listing(355, 4, 5, 8, 3)) {
+        Ok(tablet) => Some(tablet.index_range(area)),
+        Err(_) => None,
+    }
+}
+
+fn cut(alloc: Global, bytes: &[u8]) -> Result<Option<Cut>, Fail> {
+    Ok(Some(Cut {
+        bytes: Octets::from_slice(alloc, bytes)?,
+        after: false,
+    }))
+}
+
+fn range_of(alloc: Global, lo: &[u8], hi: &[u8], from: u64) -> Result<Option<(u64, u64)>, Fail> {
+    let area = RawBox {
+        lo: cut(alloc, lo)?,
+        hi: cut(alloc, hi)?,
+        from,
+        to: 100,
+    };
+    let mut dev = MemDevice::new(alloc, &[])?;
+    let reader = sealed(&mut dev, alloc, &THREE).map_err(|_| "seal")?;
+    Ok(range_in(alloc, &mut dev, reader, &area))
+}
+
+#[test]
+fn blocks_of_a_box(rt: HostRuntime) -> Result<(), Fail> {
+    let last_of_b = [98, 0, 0, 0, 0, 0, 0, 0, 7];
+    let first_of_c = [99, 0, 0, 0, 0, 0, 0, 0, 8];
+    let all = range_of(rt.alloc(), &[0], &[255], 0)?;
+    assert_eq!(rt; all, Some((0, 3)), "all keys");
+    let at_the_ends = range_of(rt.alloc(), &last_of_b, &first_of_c, 8)?;
+    assert_eq!(rt;
+        at_the_ends,
+        Some((1, 2)),
+        "from the last key of a block up to the first of the next"
+    );
+    let late = range_of(rt.alloc(), &[0], &[255], 9)?;
+    assert_eq!(rt; late, Some((0, 0)), "behind the last timestamp");
+    Ok(())
+}
+
+#[test]
+fn a_device_that_fails(rt: HostRuntime) -> Result<(), Fail> {
+    for nth in 1..8 {
+        let fail = Failing {
+            op: Op::ReadAt,
+            nth,
+            done: false,
+        };
+        let mut dev = MemDevice::new(rt.alloc(), &[fail])?;
+        let reader = sealed(&mut dev, rt.alloc(), &THREE).map_err(|_| "seal")?;
+        let answer = refusal(rt.alloc(), &mut dev, reader, listing(355, 4, 5, 8, 3));
+        assert_eq!(rt; answer, Some(ReadError::Fault), "read {nth} fails");
+    }
+    Ok(())
+}
