@@ -2,3 +2,4 @@ pub mod Bytes
 pub mod Keys
 pub mod Lengths
 pub mod Steps
+mod Round

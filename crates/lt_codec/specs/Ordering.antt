@@ -6,6 +6,7 @@ use Rattle.std.specs.declared.cmp.Ordering.TheVariants.{Less, Equal, Greater}
 use Rattle.lt_schema.specs.declared.value.Value.{Value}
 use Rattle.lt_schema.specs.declared.value.Value.TheVariants.{Int, Text, Blob}
 use Rattle.lt_schema.specs.Versions.{SchemaVersions, is_versions, schema_at}
+use Rattle.std.specs.Str.{is_utf8}
 use Rattle.std.specs.Prelude.{Some}
 use Rattle.lt_schema.specs.Shapes.{SchemaShape}
 use Rattle.lt_schema.specs.Check.{Passes, wrong_kind_from}
@@ -40,3 +41,9 @@ abbrev pub IsCauseOfBound : SchemaShape → List Value → BoundError → Type 0
 IsCauseOfBound schema values Count = schema.key_len < length values
 IsCauseOfBound schema values (WrongKind column) = (length values ≤ schema.key_len) × (wrong_kind_from 0 schema.columns values ≡ Some column)
 IsCauseOfBound schema values NoMemory = Unit {0}
+
+-- a text is UTF-8, as each text of the program is
+abbrev pub is_text : Value → Bool
+is_text (Int z) = true
+is_text (Text s) = is_utf8 s
+is_text (Blob s) = true

@@ -8,7 +8,7 @@ mod taking;
 mod writing;
 
 pub use fault::{BoundError, CodecError};
-pub use laws::{cuts_stand_with_their_values, keys_order_as_their_bytes};
+pub use laws::{cuts_stand_with_their_values, keys_order_as_their_bytes, rows_are_read_back};
 pub use reading::row_of;
 pub use writing::{cut_of, rec_of};
 
