@@ -72,7 +72,7 @@ end_later start (e ∷ es) = omega (arith, end_later (start + e.len) es)
 abbrev made : (offset len count : ℕ) → (first last : List ℕ) → Entry
 made offset len count first last = record { offset = offset; len = len; count = count; first = first; last = last }
 
-entry_same : (o p l m c d : ℕ) (f g k j : List ℕ) → o ≡ p → l ≡ m → c ≡ d → f ≡ g → k ≡ j → made o l c f k ≡ made p m d g j
+pub entry_same : (o p l m c d : ℕ) (f g k j : List ℕ) → o ≡ p → l ≡ m → c ≡ d → f ≡ g → k ≡ j → made o l c f k ≡ made p m d g j
 entry_same o p l m c d f g k j a b x y z =
     ap (λ (n : ℕ). made n l c f k) a ∙ (ap (λ (n : ℕ). made p n c f k) b ∙ (ap (λ (n : ℕ). made p m n f k) x ∙ (ap (λ (n : List ℕ). made p m d n k) y ∙ ap (λ (n : List ℕ). made p m d g n) z)))
 

@@ -14,3 +14,5 @@ pub mod Answering
 pub mod SoFar
 pub mod Places
 pub mod Range
+pub mod Cut
+pub mod Spelled

@@ -46,11 +46,11 @@ some_last : (recs : List Record) (key : List ℕ) → last_of recs ≡ Some key 
 some_last [] key h = absurd cc
 some_last (r ∷ recs) key h = omega arith
 
-some_hash : (recs : List Record) → 0 < length recs → 0 < length (hashes_from None recs)
+pub some_hash : (recs : List Record) → 0 < length recs → 0 < length (hashes_from None recs)
 some_hash [] some = absurd (omega (arith, some))
 some_hash (r ∷ recs) some = omega arith
 
-joined_push : (blocks : List (List Record)) (own : List Record) → joined (blocks ++ own ∷ []) ≡ joined blocks ++ own
+pub joined_push : (blocks : List (List Record)) (own : List Record) → joined (blocks ++ own ∷ []) ≡ joined blocks ++ own
 joined_push [] own = append-nil own
 joined_push (b ∷ blocks) own = ap (λ (xs : List Record). b ++ xs) (joined_push blocks own) ∙ sym (append_assoc b (joined blocks) own)
 

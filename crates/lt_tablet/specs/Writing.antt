@@ -10,11 +10,12 @@ use Rattle.lt_tablet.specs.Spelling.{Entry, Totals, header, entries_of, blocks_s
 use Rattle.lt_tablet.specs.Surveying.{Found, found_in}
 use Rattle.lt_tablet.specs.Loaded.{Loaded, listed_totals, records_in}
 
--- what is kept: the file's number and period, the entries of the blocks that went out, where the next one will begin, the
--- records of the one that fills, what was found of all records, the first key of the block that fills, the last key of
--- all, and the bytes that went out
+-- what is kept: the file's number and its pen's, the period, the entries of the blocks that went out, where the next one
+-- will begin, the records of the one that fills, what was found of all records, the first key of the block that fills,
+-- the last key of all, and the bytes that went out
 pub record Writing : Type 0 where
   pub number : ℕ
+  pub pen : ℕ
   pub period : Stretch
   pub index : List Entry
   pub offset : ℕ
@@ -26,6 +27,7 @@ pub record Writing : Type 0 where
 
 -- these blocks went out, and the records of one more fill
 pub record IsCut (told : Bool) (w : Writing) (blocks : List (List Record)) (recs : List Record) : Type 0 where
+  pub pen_is : w.pen ≡ w.number
   pub parts : recs ≡ joined blocks ++ w.filling
   pub each : AllByRecursion IsBlock blocks
   pub lawful : AllByRecursion IsRecord recs
@@ -38,10 +40,31 @@ pub record IsCut (told : Bool) (w : Writing) (blocks : List (List Record)) (recs
   pub last_is : w.last ≡ last_key [] recs
   pub bytes_are : told ≡ true → w.bytes ≡ header ++ blocks_spelled blocks
 
+-- what stays where a record is put
+pub record Keeps (old new : Writing) : Type 0 where
+  pub pen : new.pen ≡ old.pen
+  pub number : new.number ≡ old.number
+  pub period : new.period ≡ old.period
+  pub index : new.index ≡ old.index
+  pub offset : new.offset ≡ old.offset
+  pub bytes : new.bytes ≡ old.bytes
+
+-- these records were written, and the block that fills has one more
+pub record Filled (told : Bool) (new : Writing) (recs : List Record) (r : Record) : Type 0 where
+  pub blocks : List (List Record)
+  pub old : Writing
+  pub cut : IsCut told old blocks recs
+  pub keeps : Keeps old new
+  pub filling : new.filling ≡ old.filling ++ r ∷ []
+  pub found : new.found ≡ old.found
+  pub first : new.first ≡ old.first
+  pub last : new.last ≡ old.last
+
 -- these records were written so far
 pub record Wrote (told : Bool) (w : Writing) (recs : List Record) : Type 0 where
   pub blocks : List (List Record)
   pub cut : IsCut told w blocks recs
+  pub fills : 0 < length recs → 0 < length w.filling
 
 -- a listing names its tablet's file, and a period that has the least and the greatest timestamp
 pub record IsListing (listed : Listed) (number : ℕ) (period : Stretch) : Type 0 where

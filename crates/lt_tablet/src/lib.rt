@@ -5,17 +5,22 @@
 mod block;
 mod errors;
 mod footer;
+mod fresh;
 mod index;
 mod laws;
 mod loading;
 mod records;
+mod spelling;
 mod survey;
 mod tablet;
 mod totals;
+mod writer;
 
 pub use errors::{ReadError, WriteError};
+pub use fresh::Fresh;
 pub use laws::file_laws;
 pub use tablet::Tablet;
+pub use writer::TabletWriter;
 
 #[cfg(test)]
 mod tests;

@@ -1,0 +1,8 @@
+use Rattle.std.proofs.Common.{sym, ap, ◌∙◌}
+use Rattle.lt_rec.specs.declared.listed.Listed.{Listed}
+use Rattle.lt_tablet.specs.Spelling.{totals_of}
+use Rattle.lt_tablet.specs.Loaded.{Loaded, listed_totals, records_in}
+use Rattle.lt_tablet.proofs.fresh.Fresh.listed.Goals as goal
+
+pub returns-clause-told : goal.returns-clause-told
+returns-clause-told g c = λ honest. ap (λ (l : Listed). listed_totals l) c.self.invariant.0 ∙ (sym (c.self.invariant.2 honest).totals ∙ ap (λ (t : Loaded). totals_of (records_in t)) c.self.view_is)
