@@ -1,15 +1,13 @@
 -- The bytes of keys compare as keys do, whatever the versions of their rows, and cuts stand with their values.
-use Rattle.std.proofs.Common.{◌≡◌, ℕ, zero, suc, ◌+◌, ◌-◌, ◌^◌, ◌<◌, ◌≤◌, ℤ, pos, negsuc, Bool, true, false, cond, List, [], ◌∷◌, ◌++◌, length, take, drop, map, refl, sym, ap, subst, ◌∙◌, arith, Ordering, Less, Equal, Greater}
-use Rattle.std.specs.Prelude.{IsTrue, not, ◌&&◌, ◌||◌, ◌==◌, nat_eq, nat_lt, nat_le, Option, Some, None, is_none, if◌then◌else◌}
-use Rattle.std.specs.List.{list_all, starts_with}
-use Rattle.std.specs.Ordering.{nat_cmp, int_cmp, is_lt, ordering_then, ordering_reverse, MatchOrdering}
+use Rattle.std.proofs.Common.{◌≡◌, ℕ, zero, suc, ◌+◌, ◌^◌, ◌<◌, ◌≤◌, pos, negsuc, Bool, true, false, cond, List, [], ◌∷◌, ◌++◌, length, take, map, refl, sym, ap, subst, ◌∙◌, arith, Ordering, Less, Equal, Greater}
+use Rattle.std.specs.Prelude.{IsTrue, not, ◌&&◌, ◌||◌, nat_eq, Option, Some, None, is_none}
+use Rattle.std.specs.List.{list_all}
+use Rattle.std.specs.Ordering.{nat_cmp, is_lt, ordering_then, ordering_reverse, MatchOrdering}
 use Rattle.std.specs.Cmp.{ranks}
 use Rattle.std.specs.Cmp.Lexicographic.{slice_cmp}
-use Rattle.std.specs.Int.{w64, to_be_bytes}
-use Rattle.std.proofs.lemmas.List.{take-append-le, take-map, length-map, length-append, length-take}
+use Rattle.std.proofs.lemmas.List.{take-append-le, take-map, length-map, length-take}
 use Rattle.std.proofs.lemmas.Bool.{eq-eqb, ne_eqb, leb-true}
 use Rattle.std.proofs.lemmas.Bool.Decides.{nat_tests}
-use Rattle.lt_rec.specs.declared.cut.Cut.{Cut}
 use Rattle.lt_rec.specs.Bytes.{is_less, begins_with}
 use Rattle.lt_rec.specs.Boxes.{is_below}
 use Rattle.lt_schema.specs.declared.kind.Kind.{Kind}
@@ -19,18 +17,17 @@ use Rattle.lt_schema.specs.declared.value.Value.TheVariants.{Int, Text, Blob}
 use Rattle.lt_schema.specs.declared.change.Change.{Change}
 use Rattle.lt_schema.specs.declared.change.Change.TheVariants.{Append, Widen}
 use Rattle.lt_schema.specs.declared.row.RowFault.{RowFault}
-use Rattle.lt_schema.specs.declared.row.RowFault.TheVariants.{Arity, WrongKind}
+use Rattle.lt_schema.specs.declared.row.RowFault.TheVariants.{Arity}
 use Rattle.lt_schema.specs.Shapes.{ColumnShape, SchemaShape}
-use Rattle.lt_schema.specs.Names.{is_name}
 use Rattle.lt_schema.specs.Lawful.{is_schema, has_name}
-use Rattle.lt_schema.specs.Values.{value_cmp, key_cmp, leading_cmp, is_of_kind, moment_of}
-use Rattle.lt_schema.specs.Check.{key_of, wrong_kind_from, row_fault, kind_fault, length_fault, Passes}
-use Rattle.lt_schema.specs.Versions.{SchemaVersions, is_int32_kind, widened, changed, after_changes, schema_at, alter_refusal, is_admitted, are_admitted, is_versions, has_lawful_name}
+use Rattle.lt_schema.specs.Values.{value_cmp, key_cmp, leading_cmp, is_of_kind}
+use Rattle.lt_schema.specs.Check.{key_of, wrong_kind_from, kind_fault, length_fault, Passes}
+use Rattle.lt_schema.specs.Versions.{SchemaVersions, is_int32_kind, widened, changed, after_changes, schema_at, alter_refusal, is_admitted, are_admitted, is_versions}
 use Rattle.lt_schema.specs.Orders.{key_cmp_total}
-use Rattle.lt_schema.proofs.Growing.{both_true, IsLawful, lawful_from, narrow_where_named, narrow_at_most, none_is, is_schema-changed, is_schema-at, are_admitted-take}
+use Rattle.lt_schema.proofs.Growing.{both_true, lawful_from, narrow_where_named, narrow_at_most, none_is, is_schema-changed, is_schema-at, are_admitted-take}
 use Rattle.lt_codec.specs.Spelling.{in_key, turned, spelled_by, key_columns, key_bytes}
-use Rattle.lt_codec.specs.Ordering.{is_word, fits_word, IsRowOf, lies_below}
-use Rattle.lt_codec.proofs.Bytes.{IsByBytes, then_assoc, numbers, turned_fits, turned_cmp, moments_cmp, texts}
+use Rattle.lt_codec.specs.Ordering.{fits_word, IsRowOf, lies_below}
+use Rattle.lt_codec.proofs.Bytes.{IsByBytes, numbers, turned_fits, turned_cmp, moments_cmp, texts}
 
 -- ---- kinds without their widths
 

@@ -1,29 +1,28 @@
 -- How long spelled rows are, and that a key ends in its timestamp.
-use Rattle.std.proofs.Common.{◌≡◌, ℕ, zero, suc, ◌+◌, ◌-◌, ◌^◌, ◌<◌, ◌≤◌, ℤ, pos, negsuc, Bool, true, false, cond, eqb, List, [], ◌∷◌, ◌++◌, length, get_or, take, drop, map, refl, sym, ap, subst, ◌∙◌, arith, append_assoc, append-nil}
-use Rattle.std.specs.Prelude.{IsTrue, nat_lt, nat_eq, count_by, sum_by, Option, Some, None, slice_get, min}
+use Rattle.std.proofs.Common.{◌≡◌, ℕ, zero, suc, ◌+◌, ◌-◌, ◌^◌, ◌<◌, ◌≤◌, pos, negsuc, Bool, true, false, cond, eqb, List, [], ◌∷◌, ◌++◌, length, get_or, take, drop, refl, sym, ap, ◌∙◌, arith, append_assoc, append-nil}
+use Rattle.std.specs.Prelude.{IsTrue, nat_lt, nat_eq, count_by, sum_by, Option, Some, None, slice_get}
 use Rattle.std.specs.Option.{option_map_or}
 use Rattle.std.specs.Int.{w32, w64, to_be_bytes, from_be_bytes}
 use Rattle.std.proofs.Math.Seq.{drop-cons}
 use Rattle.std.proofs.Math.ListN.{drop_of_length-le}
-use Rattle.std.proofs.lemmas.List.{length-append, length-take, length-drop}
+use Rattle.std.proofs.lemmas.List.{length-append, length-take}
 use Rattle.std.proofs.lemmas.List.Sums.{sum_by-append}
 use Rattle.std.proofs.lemmas.Nat.{from_be_bytes-to_be_bytes_8}
 use Rattle.std.proofs.lemmas.Bool.{leb-true}
 use Rattle.std.proofs.lemmas.Bool.Decides.{nat_tests}
-use Rattle.std.proofs.lemmas.Grind.{common_steps}
 use Rattle.lt_rec.specs.Record as record_spec
 use Rattle.lt_schema.specs.declared.kind.Kind.{Kind}
 use Rattle.lt_schema.specs.declared.kind.Kind.TheVariants.{Int32, Int64, Time, Text as TextKind, Blob as BlobKind}
 use Rattle.lt_schema.specs.declared.value.Value.{Value}
 use Rattle.lt_schema.specs.declared.value.Value.TheVariants.{Int, Text, Blob}
 use Rattle.lt_schema.specs.declared.row.RowFault.{RowFault}
-use Rattle.lt_schema.specs.declared.row.RowFault.TheVariants.{Arity, WrongKind, KeyLong, BodyLong}
+use Rattle.lt_schema.specs.declared.row.RowFault.TheVariants.{Arity, KeyLong, BodyLong}
 use Rattle.lt_schema.specs.Shapes.{ColumnShape, SchemaShape}
 use Rattle.lt_schema.specs.Lawful.{is_schema, is_time_column}
 use Rattle.lt_schema.specs.Values.{is_of_kind, moment_of, key_len_of, key_len_of_bytes, body_len_of}
-use Rattle.lt_schema.specs.Check.{Passes, wrong_kind_from, key_of, time_of, len_under, key_len_in_bytes, body_len_in_bytes, length_fault, kind_fault, counted}
+use Rattle.lt_schema.specs.Check.{Passes, wrong_kind_from, time_of, len_under, key_len_in_bytes, body_len_in_bytes, length_fault, kind_fault, counted}
 use Rattle.lt_schema.proofs.Growing.{lawful_from}
-use Rattle.lt_codec.specs.Spelling.{escaped, in_key, in_body, spelled_by, key_columns, body_columns, key_bytes, body_bytes}
+use Rattle.lt_codec.specs.Spelling.{escaped, in_key, in_body, spelled_by, body_columns, key_bytes, body_bytes}
 use Rattle.lt_codec.proofs.Keys.{passes_parts}
 
 -- ---- steps of the loops

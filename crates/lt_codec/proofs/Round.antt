@@ -1,15 +1,14 @@
 -- What is spelled is read.
-use Rattle.std.proofs.Common.{◌≡◌, ℕ, zero, suc, ◌+◌, ◌-◌, ◌*◌, ◌^◌, ◌<◌, ◌≤◌, ℤ, pos, negsuc, Bool, true, false, cond, eqb, List, [], ◌∷◌, ◌++◌, length, take, drop, refl, sym, ap, subst, ◌∙◌, arith, append_assoc, append-nil}
-use Rattle.std.specs.Prelude.{T, IsTrue, nat_lt, nat_eq, ◌&&◌, Option, Some, None, option_map, option_and_then, Result, Ok, Err}
+use Rattle.std.proofs.Common.{◌≡◌, ℕ, zero, suc, ◌+◌, ◌-◌, ◌^◌, ◌<◌, ◌≤◌, ℤ, pos, negsuc, Bool, true, false, cond, eqb, List, [], ◌∷◌, ◌++◌, length, take, drop, refl, sym, ap, ◌∙◌, arith, append_assoc, append-nil}
+use Rattle.std.specs.Prelude.{T, IsTrue, nat_lt, Option, Some, None, option_map, option_and_then, Result, Ok}
 use Rattle.std.specs.List.{list_all}
-use Rattle.std.specs.Int.{Width, w32, w64, to_be_bytes, from_be_bytes, bytes_high_first, cast_signed, cast_unsigned, byte_len}
+use Rattle.std.specs.Int.{w32, w64, to_be_bytes, from_be_bytes, cast_signed, cast_unsigned}
 use Rattle.std.specs.Str.{is_utf8}
 use Rattle.std.proofs.lemmas.Nat.{from_be_bytes-to_be_bytes_4, from_be_bytes-to_be_bytes_8}
-use Rattle.std.proofs.lemmas.List.{length-append, length-take, length-drop, take-append-drop}
+use Rattle.std.proofs.lemmas.List.{length-append, length-drop, take-append-drop}
 use Rattle.std.proofs.lemmas.Int.{to_z-of_z}
 use Rattle.std.proofs.Common.{SFits}
 use Rattle.std.proofs.Math.Facts.{sfits_lit}
-use Rattle.std.proofs.lemmas.Bool.{leb-true}
 use Rattle.std.proofs.lemmas.Bool.Decides.{nat_tests}
 use Rattle.lt_schema.specs.declared.kind.Kind.{Kind}
 use Rattle.lt_schema.specs.declared.kind.Kind.TheVariants.{Int32, Int64, Time, Text as TextKind, Blob as BlobKind}
@@ -17,15 +16,15 @@ use Rattle.lt_schema.specs.declared.value.Value.{Value}
 use Rattle.lt_schema.specs.declared.value.Value.TheVariants.{Int, Text, Blob}
 use Rattle.lt_schema.specs.Shapes.{ColumnShape, SchemaShape}
 use Rattle.lt_schema.specs.Lawful.{is_schema}
-use Rattle.lt_schema.specs.Values.{is_of_kind, moment_of, body_len_of}
+use Rattle.lt_schema.specs.Values.{is_of_kind, body_len_of}
 use Rattle.lt_schema.specs.Check.{Passes, wrong_kind_from, len_under}
-use Rattle.lt_schema.proofs.Growing.{both_true, lawful_from}
+use Rattle.lt_schema.proofs.Growing.{both_true}
 use Rattle.lt_codec.specs.Spelling.{turned, escaped, in_key, in_body, spelled_by, key_columns, body_columns, key_bytes, body_bytes}
 use Rattle.lt_codec.specs.Ordering.{is_word, fits_word, is_text}
-use Rattle.lt_codec.specs.Reading.{◌>>=◌, number_at, bytes_at, counted_at, behind, unescaped, turned_back, number_as, text_as, bytes_as, if_of_kind, any_in_key, in_key_at, any_in_body, in_body_at, or_fault, values_at, ended, all_at, behind_values, row_at}
+use Rattle.lt_codec.specs.Reading.{◌>>=◌, number_at, bytes_at, counted_at, behind, unescaped, turned_back, number_as, text_as, bytes_as, if_of_kind, any_in_key, in_key_at, any_in_body, in_body_at, values_at, ended, all_at, behind_values, row_at}
 use Rattle.lt_codec.proofs.Bytes.{turned_fits}
 use Rattle.lt_codec.proofs.Keys.{passes_parts}
-use Rattle.lt_codec.proofs.Lengths.{IsSmall, small, spelled_front}
+use Rattle.lt_codec.proofs.Lengths.{small, spelled_front}
 
 -- ---- numbers
 

@@ -1,5 +1,5 @@
 -- Steps of reading.
-use Rattle.std.proofs.Common.{◌≡◌, ℕ, zero, suc, ◌+◌, ◌-◌, ◌<◌, ◌≤◌, Bool, true, false, cond, eqb, List, [], ◌∷◌, ◌++◌, length, get_or, drop, refl, sym, ap, ◌∙◌, arith, append_assoc, append-nil, add-one}
+use Rattle.std.proofs.Common.{◌≡◌, ℕ, suc, ◌+◌, ◌-◌, ◌<◌, ◌≤◌, Bool, true, false, cond, eqb, List, [], ◌∷◌, ◌++◌, length, get_or, drop, refl, sym, ap, ◌∙◌, append_assoc, add-one}
 use Rattle.std.specs.Prelude.{Option, Some, None, option_map, Result, Ok, Err}
 use Rattle.std.specs.Str.{IsUtf8, is_utf8}
 use Rattle.std.proofs.Math.Seq.{drop-cons}
@@ -10,7 +10,7 @@ use Rattle.lt_schema.specs.declared.value.Value.{Value}
 use Rattle.lt_schema.specs.Shapes.{ColumnShape}
 use Rattle.lt_codec.specs.declared.taking.Step.{Step}
 use Rattle.lt_codec.specs.declared.taking.Step.TheVariants.{Put, Wait, End, Fault}
-use Rattle.lt_codec.specs.Reading.{◌>>=◌, behind, step, unescaped, or_fault, values_at, ended, all_at, behind_values}
+use Rattle.lt_codec.specs.Reading.{◌>>=◌, behind, step, unescaped, values_at, ended, all_at, behind_values}
 
 -- ---- escaped texts
 

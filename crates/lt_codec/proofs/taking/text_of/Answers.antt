@@ -1,6 +1,5 @@
-use Rattle.std.proofs.Common.{◌≡◌, List, ℕ, ap, sym, ◌∙◌, refl}
+use Rattle.std.proofs.Common.{List, ℕ, ap, ◌∙◌, refl}
 use Rattle.std.specs.Prelude.{Some}
-use Rattle.std.specs.Str.{is_utf8}
 use Rattle.std.proofs.lemmas.Str.{is_utf8-from_IsUtf8}
 use Rattle.lt_schema.specs.declared.value.Value.TheVariants.{Text}
 use Rattle.lt_codec.proofs.Steps.{not_utf8}

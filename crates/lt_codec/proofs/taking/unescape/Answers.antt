@@ -1,5 +1,5 @@
-use Rattle.std.proofs.Common.{◌≡◌, ◌+◌, ◌++◌, ◌∷◌, [], List, ℕ, Bool, true, false, drop, get_or, ap, sym, ◌∙◌, append-nil}
-use Rattle.std.specs.Prelude.{Option, Some}
+use Rattle.std.proofs.Common.{◌+◌, List, ℕ, Bool, false, drop, get_or, ap, sym, ◌∙◌, append-nil}
+use Rattle.std.specs.Prelude.{Some}
 use Rattle.lt_codec.specs.Reading.{unescaped}
 use Rattle.lt_codec.proofs.Steps.{on_end, on_fault, on_wait, put_more, none_left, cut_byte, prefixed}
 use Rattle.lt_codec.proofs.taking.unescape.Goals as goal

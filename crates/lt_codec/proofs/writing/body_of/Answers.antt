@@ -1,5 +1,5 @@
-use Rattle.std.proofs.Common.{◌≡◌, ◌++◌, ℕ, List, drop, ap, sym, ◌∙◌, append-nil}
-use Rattle.lt_codec.specs.Spelling.{in_body, spelled_by}
+use Rattle.std.proofs.Common.{◌++◌, ℕ, List, ap, sym, ◌∙◌, append-nil}
+use Rattle.lt_codec.specs.Spelling.{in_body}
 use Rattle.lt_codec.proofs.Lengths.{spelled_end}
 use Rattle.lt_codec.proofs.writing.body_of.Goals as goal
 

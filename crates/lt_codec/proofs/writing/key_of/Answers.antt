@@ -1,5 +1,5 @@
-use Rattle.std.proofs.Common.{◌≡◌, ◌++◌, ℕ, List, drop, ap, sym, ◌∙◌, append-nil}
-use Rattle.lt_codec.specs.Spelling.{in_key, spelled_by}
+use Rattle.std.proofs.Common.{◌++◌, ℕ, List, ap, sym, ◌∙◌, append-nil}
+use Rattle.lt_codec.specs.Spelling.{in_key}
 use Rattle.lt_codec.proofs.Lengths.{spelled_end}
 use Rattle.lt_codec.proofs.writing.key_of.Goals as goal
 

@@ -1,4 +1,4 @@
-use Rattle.std.proofs.Common.{◌≡◌, ◌++◌, ◌+◌, ℕ, List, drop, ap, sym, ◌∙◌, arith}
+use Rattle.std.proofs.Common.{◌++◌, ◌+◌, ℕ, List, drop, ap, sym, ◌∙◌}
 use Rattle.lt_codec.specs.Spelling.{escaped}
 use Rattle.lt_codec.proofs.Lengths.{escaped_more, escaped_end}
 use Rattle.lt_codec.proofs.writing.put_escaped.Goals as goal

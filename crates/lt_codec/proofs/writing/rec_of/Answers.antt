@@ -1,6 +1,4 @@
-use Rattle.std.proofs.Common.{◌≡◌, ◌≤◌, refl, ℕ, List, length, take, drop, ap, sym, subst, ◌∙◌, arith}
-use Rattle.lt_rec.specs.Record as record_spec
-use Rattle.lt_rec.specs.Record.{Record}
+use Rattle.std.proofs.Common.{◌≡◌, refl, ℕ, List, take, drop, ap, ◌∙◌}
 use Rattle.lt_schema.specs.Shapes.{ColumnShape}
 use Rattle.lt_codec.specs.Spelling.{in_key, in_body, spelled_by, key_bytes, body_bytes}
 use Rattle.lt_codec.proofs.Lengths.{IsSmall, small, spelled_front}
