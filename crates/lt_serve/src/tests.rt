@@ -1,4 +1,5 @@
 use super::*;
+use itoa::Buffer;
 use lt_io::{INPUT_LIMIT, MemSink, MemSource, Source, SourceFault};
 use lt_rec::Octets;
 use std::alloc::{AllocError, Global};
@@ -92,6 +93,38 @@ fn sessions_of_one_client(rt: HostRuntime) -> Result<(), Fail> {
         let mut sink = MemSink::new(rt.alloc(), &[])?;
         run(rt.alloc(), &words, &mut source, &mut sink);
         assert_eq!(rt; sink.bytes(), text.as_bytes(), "the input {input:?}");
+    }
+    Ok(())
+}
+
+fn put_insert(out: &mut Vec<u8>, at: usize) -> Result<(), AllocError> {
+    out.extend_from_slice(b"a: @1 insert \"n\" 0 ")?;
+    out.extend_from_slice(Buffer::new().format(at).as_bytes())?;
+    out.extend_from_slice(b" 0\n")
+}
+
+fn inserts_and_a_scan(alloc: Global, rows: usize) -> Result<Vec<u8>, AllocError> {
+    let mut input = Vec::new(alloc);
+    for at in 0..rows {
+        put_insert(&mut input, at)?;
+    }
+    input.extend_from_slice(b"a: scan\n")?;
+    Ok(input)
+}
+
+#[test]
+fn a_scan_shows_a_thousand_rows(rt: HostRuntime) -> Result<(), Fail> {
+    let words = words(rt.alloc(), &SESSION)?;
+    for (rows, wanted) in [
+        (1_000, "\nrows 1000 all place 1000 since 0\n"),
+        (1_001, "\nrows 1000 more place 1001 since 0\n"),
+    ] {
+        let input = Octets::from_vec(inserts_and_a_scan(rt.alloc(), rows)?);
+        let mut source = MemSource::new(rt.alloc(), input, &[])?;
+        let mut sink = MemSink::new(rt.alloc(), &[])?;
+        run(rt.alloc(), &words, &mut source, &mut sink);
+        let text = std::str::from_utf8(sink.bytes()).map_err(|_| "no UTF-8")?;
+        assert!(rt; text.contains(wanted), "{rows} rows");
     }
     Ok(())
 }
