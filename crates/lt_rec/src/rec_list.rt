@@ -184,6 +184,14 @@ impl RecList {
         Ok(list)
     }
 
+    /// Makes room for so many more chunks.
+    pub fn reserve(&mut self, count: usize) -> Result<(), NoMemory>
+        ensures { self.new ≡ self.old }
+    {
+        self.chunks.reserve(count)?;
+        Ok(())
+    }
+
     /// Adds the chunk's records at the end.
     pub fn push(&mut self, chunk: Chunk) -> Result<(), NoMemory>
         ensures ok { OnOk result (self.new ≡ self.old ++ chunk) }
