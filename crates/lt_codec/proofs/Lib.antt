@@ -3,3 +3,4 @@ pub mod Keys
 pub mod Lengths
 pub mod Steps
 mod Round
+mod Sole
