@@ -4,3 +4,4 @@ pub mod Lengths
 pub mod Steps
 mod Round
 mod Sole
+mod Texts

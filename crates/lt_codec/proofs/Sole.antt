@@ -1,8 +1,8 @@
 -- What is read is spelled in no other way.
-use Rattle.std.proofs.Common.{◌≡◌, ℕ, zero, suc, ◌+◌, ◌-◌, ◌^◌, ◌<◌, ◌≤◌, ℤ, pos, negsuc, Bool, true, false, cond, eqb, ltb, ◌&&◌, List, [], ◌∷◌, ◌++◌, length, get_or, take, drop, refl, sym, ap, subst, ◌∙◌, arith, append_assoc, append-nil, inl, inr}
+use Rattle.std.proofs.Common.{◌≡◌, ℕ, suc, ◌+◌, ◌-◌, ◌^◌, ◌<◌, ◌≤◌, ℤ, pos, negsuc, Bool, true, false, cond, eqb, ◌&&◌, List, [], ◌∷◌, ◌++◌, length, get_or, take, drop, refl, sym, ap, subst, ◌∙◌, arith, append_assoc, append-nil, inl, inr}
 use Rattle.std.specs.Prelude.{IsTrue, nat_lt, Option, Some, None, option_map, option_and_then, Result, Ok, Err, All}
 use Rattle.std.specs.List.{list_all}
-use Rattle.std.specs.Int.{Width, w32, w64, byte_len, to_be_bytes, from_be_bytes, cast_signed, cast_unsigned}
+use Rattle.std.specs.Int.{Width, w32, w64, to_be_bytes, from_be_bytes, cast_signed, cast_unsigned}
 use Rattle.std.specs.Str.{is_utf8}
 use Rattle.std.proofs.lemmas.Nat.{be_bytes_4, be_bytes_8}
 use Rattle.std.proofs.lemmas.List.{length-append, length-drop, length-take, take-append-drop, get_or_past}
@@ -13,13 +13,13 @@ use Rattle.std.proofs.lemmas.Bool.Decides.{nat_tests}
 use Rattle.lt_schema.specs.declared.kind.Kind.{Kind}
 use Rattle.lt_schema.specs.declared.kind.Kind.TheVariants.{Int32, Int64, Time, Text as TextKind, Blob as BlobKind}
 use Rattle.lt_schema.specs.declared.value.Value.{Value}
-use Rattle.lt_schema.specs.declared.value.Value.TheVariants.{Int, Text, Blob}
+use Rattle.lt_schema.specs.declared.value.Value.TheVariants.{Int, Text}
 use Rattle.lt_schema.specs.Shapes.{ColumnShape, SchemaShape}
 use Rattle.lt_schema.specs.Lawful.{is_schema}
 use Rattle.lt_schema.specs.Values.{is_of_kind}
 use Rattle.lt_schema.specs.Check.{wrong_kind_from}
 use Rattle.lt_schema.proofs.Growing.{both_true, lawful_from}
-use Rattle.lt_codec.specs.Spelling.{turned, escaped, in_key, in_body, spelled_by, key_columns, body_columns, key_bytes, body_bytes}
+use Rattle.lt_codec.specs.Spelling.{turned, escaped, in_key, in_body, spelled_by, key_columns, body_columns}
 use Rattle.lt_codec.specs.Ordering.{IsSpelling, is_word, fits_word, is_text}
 use Rattle.lt_codec.specs.Reading.{◌>>=◌, number_at, bytes_at, counted_at, behind, unescaped, turned_back, number_as, text_as, bytes_as, if_of_kind, any_in_key, in_key_at, any_in_body, in_body_at, or_fault, values_at, ended, all_at, behind_values, row_at}
 
