@@ -58,6 +58,21 @@ fn walk_piece(
     walk_run(held, from, to, area, down, found)
 }
 
+/// How many of the pieces, in the order of reading, have enough records for the limit, or all pieces.
+fn wanted(pieces: &[Piece], down: bool, limit: usize) -> usize
+    ensures within { result ≤ length pieces.now }
+{
+    let mut left = limit;
+    for step in 0..pieces.len() {
+        if left == 0 {
+            return step;
+        }
+        let at = if down { pieces.len() - 1 - step } else { step };
+        left = left.saturating_sub(pieces[at].as_slice().len());
+    }
+    pieces.len()
+}
+
 /// Adds the records of the box. All pieces but the first meet its lower bound, and all but the last its upper one.
 fn walk_between(
     pieces: &[Piece],
@@ -95,5 +110,6 @@ pub fn walk_pieces(
     let first = first_of(pieces, area).min(end);
     let (front, _) = pieces.split_at(end);
     let (_, between) = front.split_at(first);
+    found.reserve(wanted(between, down, found.left))?;
     walk_between(between, area, down, found)
 }
