@@ -36,6 +36,7 @@ impl Growing {
     }
 
     /// Adds the first records of the chunk, as many as there is room for.
+    #[inline(always)]
     pub fn add(&mut self, chunk: Chunk) -> Result<(), NoMemory>
         ensures { OnOk result (self.new ≡ grown self.old chunk) }
     {

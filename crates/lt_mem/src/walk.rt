@@ -1,4 +1,4 @@
-ghost use Rattle.std.specs.Prelude.{◌≡◌, ℕ, ◌+◌, ◌<◌, ◌≤◌, true, OnOk, filter, length};
+ghost use Rattle.std.specs.Prelude.{◌≡◌, ℕ, ◌+◌, ◌/◌, ◌<◌, ◌≤◌, true, OnOk, filter, length};
 ghost use Rattle.lt_rec.specs.Boxes.{in_box};
 ghost use Rattle.lt_rec.specs.Records.{joined, piece};
 ghost use Rattle.lt_mem.specs.Rising.{IsRising, in_order};
@@ -7,6 +7,7 @@ ghost use Rattle.lt_mem.specs.Pieces.{grown, has_time, piece_at, AreLined, AllMe
 use crate::growing::Growing;
 use crate::piece::Piece;
 use crate::reach::{end_of, first_of, from_of, to_of};
+use crate::store::FULL;
 use crate::timed::add_timed;
 use lt_rec::{NoMemory, RawBox};
 
@@ -58,21 +59,6 @@ fn walk_piece(
     walk_run(held, from, to, area, down, found)
 }
 
-/// How many of the pieces, in the order of reading, have enough records for the limit, or all pieces.
-fn wanted(pieces: &[Piece], down: bool, limit: usize) -> usize
-    ensures within { result ≤ length pieces.now }
-{
-    let mut left = limit;
-    for step in 0..pieces.len() {
-        if left == 0 {
-            return step;
-        }
-        let at = if down { pieces.len() - 1 - step } else { step };
-        left = left.saturating_sub(pieces[at].as_slice().len());
-    }
-    pieces.len()
-}
-
 /// Adds the records of the box. All pieces but the first meet its lower bound, and all but the last its upper one.
 fn walk_between(
     pieces: &[Piece],
@@ -96,6 +82,13 @@ fn walk_between(
     Ok(())
 }
 
+/// In how many pieces, about, so many records lie: a piece that was split has half of a full one's, or more.
+fn most_pieces(count: usize) -> usize
+    ensures { result ≡ count / 256 + 2 }
+{
+    count / (FULL / 2) + 2
+}
+
 /// Adds the records of the box, in the order of reading. Pieces that its keys don't reach are not looked at.
 pub fn walk_pieces(
     pieces: &[Piece],
@@ -110,6 +103,6 @@ pub fn walk_pieces(
     let first = first_of(pieces, area).min(end);
     let (front, _) = pieces.split_at(end);
     let (_, between) = front.split_at(first);
-    found.reserve(wanted(between, down, found.left))?;
+    found.reserve(between.len().min(most_pieces(found.left)))?;
     walk_between(between, area, down, found)
 }
