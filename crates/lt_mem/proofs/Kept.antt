@@ -5,6 +5,7 @@ use Rattle.std.proofs.lemmas.List.Edits.{get_or-insert_at, get_or-insert_below, 
 use Rattle.std.proofs.lemmas.List.Sorted.{IsPermutation-insert, sum_by_pushed}
 use Rattle.std.proofs.lemmas.Bool.{cases_lt}
 use Rattle.lt_rec.specs.Record.{Record, stored_len}
+use Rattle.lt_mem.specs.Pieces.{AreWithin}
 use Rattle.lt_mem.specs.Rising.{SpansOf, Gains, all_stored, widened_by}
 
 module _ (xs : List Record) (n : ℕ) (r : Record) (within : n ≤ length xs) where
@@ -60,6 +61,11 @@ module _ (xs : List Record) (n : ℕ) (r : Record) (within : n ≤ length xs) wh
 
   pub stored_more : all_stored (insert xs n r) ≡ stored_len r + all_stored xs
   stored_more = sum_by_pushed stored_len r xs (insert xs n r) (IsPermutation-insert xs n r)
+
+-- two timestamps that all lie between, with one more
+pub times_put : (xs : List Record) (n : ℕ) (r : Record) (low high : ℕ) → n ≤ length xs → AreWithin xs low high → AreWithin (insert xs n r) (min low r.ts) (max high r.ts)
+times_put xs n r low high within was =
+    all_insert xs n r within (λ x. (min low r.ts ≤ x.ts) × (x.ts ≤ max high r.ts)) (λ k d w. let h = was k d w in (omega (arith, h.0), omega (arith, h.1))) (omega arith, omega arith)
 
 pub spans_gained : (xs ys : List Record) (r : Record) → Gains xs ys r → (of : Record → ℕ) (o : Option (ℕ × ℕ)) → SpansOf of xs o → SpansOf of ys (widened_by o (of r))
 spans_gained xs ys r g of o s = subst (λ (zs : List Record). SpansOf of zs (widened_by o (of r))) (sym g.2) (spans_more xs g.0 r g.1 of o s)

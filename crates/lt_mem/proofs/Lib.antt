@@ -1,4 +1,5 @@
 mod Order
+mod Leads
 mod Between
 mod Joined
 mod Gap

@@ -1,9 +1,10 @@
 -- The order of keys.
-use Rattle.std.proofs.Common.{◌≡◌, ◌≢◌, ℕ, true, List, refl, sym, ap, ◌∙◌, Ordering, Less, Equal, Greater}
+use Rattle.std.proofs.Common.{◌≡◌, ◌≢◌, ℕ, true, false, inl, inr, List, refl, sym, ap, ◌∙◌, Ordering, Less, Equal, Greater}
 use Rattle.std.specs.Ordering.{is_lt, nat_cmp, ordering_reverse, MatchOrdering}
 use Rattle.std.specs.Cmp.Lexicographic.{slice_cmp}
 use Rattle.std.proofs.lemmas.Cmp.{nat_list_cmp_total, tied_itself}
 use Rattle.std.proofs.lemmas.Map.Lookups.{exact_bytes}
+use Rattle.std.proofs.lemmas.Bool.{cases_Bool}
 use Rattle.lt_rec.specs.Bytes.{is_less}
 
 -- what a comparison says of two keys
@@ -25,3 +26,9 @@ less_differs a b h e =
     let same : slice_cmp nat_cmp a b ≡ Equal = ap (λ x. slice_cmp nat_cmp x b) e ∙ tied_itself nat_list_cmp_total b in
     let less : slice_cmp nat_cmp a b ≡ Less = less_of _ h in
     cc
+
+pub less_not_back : (a b : List ℕ) → is_less a b ≡ true → is_less b a ≡ false
+less_not_back a b h = elim (cases_Bool (is_less b a)) [
+  | inl back ↦ absurd (less_differs a a (less_trans a b a h back) refl)
+  | inr not ↦ not
+]

@@ -9,6 +9,7 @@ use Rattle.lt_rec.specs.declared.cut.Cut.{Cut}
 use Rattle.lt_rec.specs.declared.raw_box.RawBox.{RawBox}
 use Rattle.lt_mem.specs.declared.growing.Growing.{Growing}
 use Rattle.lt_mem.specs.Rising.{IsRising}
+use Rattle.lt_mem.specs.Lead.{IsLead}
 
 abbrev pub first_key : List Record → List ℕ
 first_key [] = []
@@ -51,6 +52,11 @@ EachRises ps = (k : ℕ) → k < length ps → IsRising (piece_at ps k)
 -- the timestamps of all records lie between these
 abbrev pub AreWithin : List Record → ℕ → ℕ → Type 0
 AreWithin recs low high = All (λ r. (low ≤ r.ts) × (r.ts ≤ high)) recs
+
+-- what is kept beside the records of a piece: the lead of its first key, and two timestamps that all lie between
+pub record IsSummed (recs : List Record) (lead low high : ℕ) : Type 0 where
+  pub first : IsLead (first_key recs) lead
+  pub times : AreWithin recs low high
 
 -- the record's timestamp is one of the box's times
 abbrev pub has_time : RawBox → Record → Bool

@@ -28,7 +28,15 @@ impl Growing {
         self.left == 0
     }
 
+    /// Makes room for so many more chunks.
+    pub fn reserve(&mut self, count: usize) -> Result<(), NoMemory>
+        ensures { self.new ≡ self.old }
+    {
+        self.list.reserve(count)
+    }
+
     /// Adds the first records of the chunk, as many as there is room for.
+    #[inline(always)]
     pub fn add(&mut self, chunk: Chunk) -> Result<(), NoMemory>
         ensures { OnOk result (self.new ≡ grown self.old chunk) }
     {

@@ -3,6 +3,7 @@
 
 mod add_error;
 mod growing;
+mod lead;
 mod piece;
 mod pieces;
 mod reach;

@@ -1,9 +1,11 @@
-ghost use Rattle.std.specs.Prelude.{◌≡◌, ◌≤◌, [], ◌∷◌, ◌++◌, OnOk, OnErr, IfOk, IfErr, true, length, take, drop};
+ghost use Rattle.std.specs.Prelude.{◌≡◌, ◌<◌, ◌≤◌, [], ◌∷◌, ◌++◌, OnOk, OnErr, IfOk, IfErr, true, length, take, drop};
 ghost use Rattle.std.specs.List.{insert};
 ghost use Rattle.std.specs.Arc.{arc_value};
 ghost use Rattle.lt_rec.specs.Records.{piece};
-ghost use Rattle.lt_mem.specs.Pieces.{AreWithin, AllHaveTime, NoneHasTime};
+ghost use Rattle.lt_mem.specs.Lead.{IsLead};
+ghost use Rattle.lt_mem.specs.Pieces.{AreWithin, AllHaveTime, NoneHasTime, first_key};
 
+use crate::lead::lead_of;
 use lt_rec::{Chunk, NoMemory, RawBox, Rec};
 use std::alloc::Global;
 use std::marker::Model;
@@ -12,10 +14,11 @@ use std::sync::Arc;
 /// How many records a full vector makes room for at a time, so that little memory stays unused.
 const GROWTH: usize = 128;
 
-/// Neighbouring records, which lists of records may share, and two timestamps that theirs lie between. Contracts see the
-/// list.
+/// Neighbouring records, which lists of records may share, the lead of the first one's key, and two timestamps that theirs
+/// lie between. Contracts see the list.
 #[derive(Drop)]
 pub struct Piece {
+    lead: u128,
     recs: Arc<Vec<Rec>>,
     earliest: u64,
     latest: u64,
@@ -25,13 +28,13 @@ impl Model for Piece {
     ghost use Rattle.std.specs.Prelude.{List};
     ghost use Rattle.std.specs.Arc.{arc_value};
     ghost use Rattle.lt_rec.specs.Record.{Record};
-    ghost use Rattle.lt_mem.specs.Pieces.{AreWithin};
+    ghost use Rattle.lt_mem.specs.Pieces.{IsSummed};
 
     ghost Value = { List Record };
 
     ghost view = { λ p. (arc_value p.recs).items };
 
-    ghost invariant = { λ p. AreWithin (arc_value p.recs).items p.earliest p.latest };
+    ghost invariant = { λ p. IsSummed (arc_value p.recs).items p.lead p.earliest p.latest };
 }
 
 impl Piece {
@@ -40,9 +43,11 @@ impl Piece {
         ensures ok { IfOk result (λ piece. piece ≡ recs.items) }
         ensures handed_back { IfErr result (λ refused. refused ≡ recs) }
     {
+        let lead = first_lead(recs.as_slice());
         let (earliest, latest) = times_of(recs.as_slice());
         match Arc::new(alloc, recs) {
             Ok(recs) => Ok(Piece {
+                lead,
                 recs,
                 earliest,
                 latest,
@@ -74,6 +79,13 @@ impl Piece {
         ensures { result.now ≡ self.now }
     {
         self.recs.as_slice()
+    }
+
+    /// The lead of the first record's key.
+    pub fn lead(&self) -> u128
+        ensures { IsLead (first_key self.now) result }
+    {
+        self.lead
     }
 
     /// The records from `from` up to `to`, shared.
@@ -108,8 +120,10 @@ impl Piece {
         ensures handed_back { IfErr result (λ refused. refused ≡ rec) }
     {
         let ts = rec.ts();
+        let lead = lead_with(self.lead, place, &rec);
         match put_in(&mut self.recs, place, rec) {
             Ok(()) => {
+                self.lead = lead;
                 self.earliest = self.earliest.min(ts);
                 self.latest = self.latest.max(ts);
                 Ok(())
@@ -127,10 +141,32 @@ impl Piece {
     {
         let given = tail_of(&mut self.recs, at)?;
         let (earliest, latest) = times_of(self.recs.as_slice());
+        self.lead = first_lead(self.recs.as_slice());
         self.earliest = earliest;
         self.latest = latest;
         Ok(given)
     }
+}
+
+/// The lead of the first record's key.
+fn first_lead(recs: &[Rec]) -> u128
+    ensures { IsLead (first_key recs.now) result }
+{
+    match recs.first() {
+        Some(rec) => lead_of(rec.key()),
+        None => lead_of(b""),
+    }
+}
+
+/// The lead once the record is put at this place.
+fn lead_with(lead: u128, place: usize, rec: &Rec) -> u128
+    ensures first { place ≡ 0 → IsLead rec.now.key result }
+    ensures later { 0 < place → result ≡ lead }
+{
+    if place == 0 {
+        return lead_of(rec.key());
+    }
+    lead
 }
 
 /// Two timestamps that those of the records lie between.

@@ -2,16 +2,26 @@
 ghost use Rattle.std.specs.Prelude.{◌≡◌, ℕ, ◌+◌, ◌<◌, ◌≤◌, true, false, length, slice_index_or};
 ghost use Rattle.lt_rec.specs.Boxes.{is_below, meets_lo, meets_hi};
 ghost use Rattle.lt_rec.specs.Record.{Record};
+ghost use Rattle.lt_mem.specs.Lead.{IsLead};
 ghost use Rattle.lt_mem.specs.Rising.{IsRising};
 ghost use Rattle.lt_mem.specs.Pieces.{first_key, piece_at, AreLined, AllBelow, NoneBelow, AllMeetLo, NoneMeetsLo, AllMeetHi, NoneMeetsHi};
 
+use crate::lead::lead_of;
 use crate::piece::Piece;
 use lt_rec::{Cut, RawBox, Rec};
 
-fn begins_below(piece: &Piece, cut: &Cut) -> bool
+/// Whether the piece begins below the cut, of whose bytes this is the lead. Where the piece's is less, no key is looked at.
+fn begins_below(piece: &Piece, cut: &Cut, lead: u128) -> bool
     requires some { 0 < length piece.now }
+    requires lead { IsLead cut.now.bytes lead }
     ensures { result ≡ is_below cut.now (first_key piece.now) }
 {
+    if piece.lead() < lead {
+        return true;
+    }
+    if lead < piece.lead() && !cut.after {
+        return false;
+    }
     let recs = piece.as_slice();
     let first = &recs[0];
     cut.below(first.key())
@@ -24,12 +34,13 @@ fn begun(pieces: &[Piece], cut: &Cut) -> usize
     ensures below { (k : ℕ) → k + 1 < result → AllBelow cut.now (piece_at pieces.now k) }
     ensures above { (k : ℕ) → result ≤ k → k < length pieces.now → NoneBelow cut.now (piece_at pieces.now k) }
 {
+    let lead = lead_of(cut.bytes.as_slice());
     let mut low = 0;
     let mut high = pieces.len();
     while low < high {
         let mid = low + (high - low) / 2;
         let piece = &pieces[mid];
-        if begins_below(piece, cut) {
+        if begins_below(piece, cut, lead) {
             low = mid + 1;
         } else {
             high = mid;

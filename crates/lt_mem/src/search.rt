@@ -2,9 +2,11 @@ ghost use Rattle.std.specs.Prelude.{◌≡◌, ℕ, ◌+◌, ◌<◌, ◌≤◌,
 ghost use Rattle.std.specs.Ordering.{MatchOrdering};
 ghost use Rattle.lt_rec.specs.Bytes.{is_less};
 ghost use Rattle.lt_rec.specs.Record.{Record};
+ghost use Rattle.lt_mem.specs.Lead.{IsLead};
 ghost use Rattle.lt_mem.specs.Rising.{IsRising};
 ghost use Rattle.lt_mem.specs.Pieces.{first_key, piece_at, AreLined, IsFound, IsGap, IsUpTo, NoneIsEmpty};
 
+use crate::lead::lead_of;
 use crate::piece::Piece;
 use lt_rec::Rec;
 use std::cmp::Ordering;
@@ -38,11 +40,18 @@ pub fn place_in(recs: &[Rec], key: &[u8]) -> Result<usize, usize>
     Err(low)
 }
 
-/// Whether the piece begins after the key.
-fn begins_after(piece: &Piece, key: &[u8]) -> bool
+/// Whether the piece begins after the key, whose lead this is. Where the leads differ, no key is looked at.
+fn begins_after(piece: &Piece, key: &[u8], lead: u128) -> bool
     requires some { 0 < length piece.now }
+    requires lead { IsLead key.now lead }
     ensures { MatchBool result (is_less key.now (first_key piece.now) ≡ true) (IsUpTo (first_key piece.now) key.now) }
 {
+    if lead < piece.lead() {
+        return true;
+    }
+    if piece.lead() < lead {
+        return false;
+    }
     let recs = piece.as_slice();
     let first = &recs[0];
     match order(first.key(), key) {
@@ -59,12 +68,13 @@ pub fn piece_for(pieces: &[Piece], key: &[u8]) -> usize
     ensures begun { 0 < result → IsUpTo (first_key (piece_at pieces.now result)) key.now }
     ensures next { result + 1 < length pieces.now → is_less key.now (first_key (piece_at pieces.now (result + 1))) ≡ true }
 {
+    let lead = lead_of(key);
     let mut low = 0;
     let mut high = pieces.len();
     while high - low > 1 {
         let mid = low + (high - low) / 2;
         let piece = &pieces[mid];
-        if begins_after(piece, key) {
+        if begins_after(piece, key, lead) {
             high = mid;
         } else {
             low = mid;

@@ -8,7 +8,7 @@ use lt_rec::Rec;
 use std::alloc::Global;
 
 /// A piece with so many records is split.
-const FULL: usize = 512;
+pub const FULL: usize = 512;
 
 /// Splits the piece, where it is full and there is memory for one more.
 fn split_long(pieces: &mut Vec<Piece>, at: usize)

@@ -1,4 +1,4 @@
-ghost use Rattle.std.specs.Prelude.{◌≡◌, ℕ, ◌+◌, ◌<◌, ◌≤◌, true, OnOk, filter, length};
+ghost use Rattle.std.specs.Prelude.{◌≡◌, ℕ, ◌+◌, ◌/◌, ◌<◌, ◌≤◌, true, OnOk, filter, length};
 ghost use Rattle.lt_rec.specs.Boxes.{in_box};
 ghost use Rattle.lt_rec.specs.Records.{joined, piece};
 ghost use Rattle.lt_mem.specs.Rising.{IsRising, in_order};
@@ -7,6 +7,7 @@ ghost use Rattle.lt_mem.specs.Pieces.{grown, has_time, piece_at, AreLined, AllMe
 use crate::growing::Growing;
 use crate::piece::Piece;
 use crate::reach::{end_of, first_of, from_of, to_of};
+use crate::store::FULL;
 use crate::timed::add_timed;
 use lt_rec::{NoMemory, RawBox};
 
@@ -81,6 +82,13 @@ fn walk_between(
     Ok(())
 }
 
+/// In how many pieces, about, so many records lie: a piece that was split has half of a full one's, or more.
+fn most_pieces(count: usize) -> usize
+    ensures { result ≡ count / 256 + 2 }
+{
+    count / (FULL / 2) + 2
+}
+
 /// Adds the records of the box, in the order of reading. Pieces that its keys don't reach are not looked at.
 pub fn walk_pieces(
     pieces: &[Piece],
@@ -95,5 +103,6 @@ pub fn walk_pieces(
     let first = first_of(pieces, area).min(end);
     let (front, _) = pieces.split_at(end);
     let (_, between) = front.split_at(first);
+    found.reserve(between.len().min(most_pieces(found.left)))?;
     walk_between(between, area, down, found)
 }
