@@ -22,6 +22,8 @@ use Rattle.lt_desc.specs.Shape.{StoneShape}
 use Rattle.lt_desc.specs.Lawful.{lists_file, comes_before}
 use Rattle.lt_desc.specs.Spelling.{mark}
 use Rattle.lt_desc.specs.declared.head.Head.{Head}
+use Rattle.lt_desc.specs.declared.listing.Sizes.{Sizes}
+use Rattle.lt_desc.specs.declared.listing.Times.{Times}
 use Rattle.lt_desc.specs.declared.fault.Fault.{Fault}
 use Rattle.lt_desc.specs.declared.fault.DescError.{DescError}
 use Rattle.lt_desc.specs.declared.fault.DescError.TheVariants as errors
@@ -85,6 +87,15 @@ number_where w test total bytes = asked test (place total bytes) (number_at w to
 
 abbrev pub is_within : ℕ → ℕ → ℕ → Bool
 is_within least most n = nat_le least n && nat_le n most
+
+-- so many steps, each from what the one before left
+unfoldable pub repeated : {S : Type 0} → (S → List ℕ → Result (S × List ℕ) ℕ) → ℕ → S → List ℕ → Result (S × List ℕ) ℕ
+repeated step zero s bytes = Ok (s, bytes)
+repeated step (suc n) s bytes = step s bytes >>= λ x. repeated step n x.0 x.1
+
+-- what is read, behind what was read before
+abbrev pub behind : {A : Type 0} → List A → A × List ℕ → Result (List A × List ℕ) ℕ
+behind before x = Ok (before ++ x.0 ∷ [], x.1)
 
 -- ---- the first fields
 
@@ -163,10 +174,9 @@ column_at tag key_len before total bytes = do
   default ← asked (is_default kind.0) (blamed tag (place total kind.1)) (value_at kind.0 total kind.1)
   Ok (record { name = name.0; kind = kind.0; default = default.0 }, default.1)
 
--- so many columns more
-unfoldable pub columns_at : (key_len n : ℕ) (before : List ColumnShape) (total : ℕ) (bytes : List ℕ) → Result (List ColumnShape × List ℕ) ℕ
-columns_at key_len zero before total bytes = Ok (before, bytes)
-columns_at key_len (suc n) before total bytes = column_at None key_len before total bytes >>= λ x. columns_at key_len n (before ++ x.0 ∷ []) total x.1
+-- a column of the first schema behind the others
+abbrev pub next_column : (key_len total : ℕ) → List ColumnShape → List ℕ → Result (List ColumnShape × List ℕ) ℕ
+next_column key_len total before bytes = column_at None key_len before total bytes >>= behind before
 
 -- ---- changes
 
@@ -194,26 +204,25 @@ change_at schema total bytes = do
   tag ← asked (is_within 0 1) (place total bytes) (byte_at total bytes)
   if tag.0 == 0 then append_at (place total bytes) schema total tag.1 else widen_at (place total bytes) schema total tag.1
 
-abbrev pub with_change : SchemaVersions → Change → SchemaVersions
-with_change v change = record { first = v.first; changes = v.changes ++ change ∷ [] }
+abbrev pub with_change : SchemaVersions → Change × List ℕ → Result (SchemaVersions × List ℕ) ℕ
+with_change v x = Ok (record { first = v.first; changes = v.changes ++ x.0 ∷ [] }, x.1)
 
--- so many changes more
-unfoldable pub changes_at : (n : ℕ) → SchemaVersions → (total : ℕ) (bytes : List ℕ) → Result (SchemaVersions × List ℕ) ℕ
-changes_at zero v total bytes = Ok (v, bytes)
-changes_at (suc n) v total bytes = change_at (newest v) total bytes >>= λ x. changes_at n (with_change v x.0) total x.1
+-- a change of the newest version
+abbrev pub next_change : (total : ℕ) → SchemaVersions → List ℕ → Result (SchemaVersions × List ℕ) ℕ
+next_change total v bytes = change_at (newest v) total bytes >>= with_change v
 
 unfoldable pub first_at : (total : ℕ) (bytes : List ℕ) → Result (SchemaShape × List ℕ) ℕ
 first_at total bytes = do
   key_len ← number_where w32 (is_within 1 64) total bytes
   count ← number_where w32 (is_within key_len.0 64) total key_len.1
-  columns ← columns_at key_len.0 count.0 [] total count.1
+  columns ← repeated (next_column key_len.0 total) count.0 [] count.1
   Ok (record { columns = columns.0; key_len = key_len.0 }, columns.1)
 
 unfoldable pub schemas_at : (total : ℕ) (bytes : List ℕ) → Result (SchemaVersions × List ℕ) ℕ
 schemas_at total bytes = do
   first ← first_at total bytes
   count ← number_where w32 (is_within 0 128) total first.1
-  changes_at count.0 (record { first = first.0; changes = [] }) total count.1
+  repeated (next_change total) count.0 (record { first = first.0; changes = [] }) count.1
 
 -- ---- tablets
 
@@ -225,23 +234,49 @@ follows before low file = option_map_or (λ t. comes_before t low file) (slice_g
 abbrev pub spans : (start low high : ℕ) → ℕ → Bool
 spans start low high len = is_period_len len && (start % len == 0) && nat_le start low && nat_lt high (start + len)
 
+-- a file below the next one that none of the others has, some rows, and the file's bytes
+unfoldable pub sizes_at : (next_file : ℕ) (before : List Listed) (total : ℕ) (bytes : List ℕ) → Result (Sizes × List ℕ) ℕ
+sizes_at next_file before total bytes = do
+  file ← number_where w64 (λ n. nat_lt n next_file && not (lists_file before n)) total bytes
+  rows ← number_where w64 (nat_lt 0) total file.1
+  size ← number_at w64 total rows.1
+  Ok (record { file = file.0; rows = rows.0; bytes = size.0 }, size.1)
+
+-- the start of a period that has both moments, and its length, in which a rule over these is broken
+unfoldable pub stretch_at : (low high total : ℕ) (bytes : List ℕ) → Result ((ℕ × ℕ) × List ℕ) ℕ
+stretch_at low high total bytes = do
+  start ← number_at w64 total bytes
+  len ← number_where w64 (spans start.0 low high) total start.1
+  Ok ((start.0, len.0), len.1)
+
+-- two moments, of which the first comes behind the others' and the second isn't below it, and their period
+unfoldable pub times_at : (file : ℕ) (before : List Listed) (total : ℕ) (bytes : List ℕ) → Result (Times × List ℕ) ℕ
+times_at file before total bytes = do
+  low ← number_where w64 (λ n. nat_lt n (2 ^ 62) && follows before n file) total bytes
+  high ← number_where w64 (is_within low.0 (2 ^ 62 - 1)) total low.1
+  stretch ← stretch_at low.0 high.0 total high.1
+  Ok (record { low = low.0; high = high.0; start = stretch.0.0; len = stretch.0.1 }, stretch.1)
+
+-- the least number, and the greatest, in which a rule over both is broken
+unfoldable pub span_at : (upto total : ℕ) (bytes : List ℕ) → Result ((ℕ × ℕ) × List ℕ) ℕ
+span_at upto total bytes = do
+  first ← number_at w64 total bytes
+  last ← number_where w64 (λ n. nat_le first.0 n && nat_lt n upto) total first.1
+  Ok ((first.0, last.0), last.1)
+
+abbrev pub listed_of : Sizes → Times → ℕ × ℕ → Listed
+listed_of sizes times span = record { file = sizes.file; rows = sizes.rows; bytes = sizes.bytes; low = times.low; high = times.high; period = record { start = times.start; len = times.len }; first = span.0; last = span.1 }
+
+-- a tablet behind others
 unfoldable pub tablet_at : (upto next_file : ℕ) (before : List Listed) (total : ℕ) (bytes : List ℕ) → Result (Listed × List ℕ) ℕ
 tablet_at upto next_file before total bytes = do
-  file ← number_where w64 (λ n. nat_lt n next_file && not (lists_file before n)) total bytes
-  rows ← number_where w64 (λ n. nat_lt 0 n) total file.1
-  size ← number_at w64 total rows.1
-  low ← number_where w64 (λ n. nat_lt n (2 ^ 62) && follows before n file.0) total size.1
-  high ← number_where w64 (λ n. nat_le low.0 n && nat_lt n (2 ^ 62)) total low.1
-  start ← number_at w64 total high.1
-  len ← number_where w64 (spans start.0 low.0 high.0) total start.1
-  first ← number_at w64 total len.1
-  last ← number_where w64 (λ n. nat_le first.0 n && nat_lt n upto) total first.1
-  Ok (record { file = file.0; rows = rows.0; bytes = size.0; low = low.0; high = high.0; period = record { start = start.0; len = len.0 }; first = first.0; last = last.0 }, last.1)
+  sizes ← sizes_at next_file before total bytes
+  times ← times_at sizes.0.file before total sizes.1
+  span ← span_at upto total times.1
+  Ok (listed_of sizes.0 times.0 span.0, span.1)
 
--- so many tablets more
-unfoldable pub tablets_at : (upto next_file n : ℕ) (before : List Listed) (total : ℕ) (bytes : List ℕ) → Result (List Listed × List ℕ) ℕ
-tablets_at upto next_file zero before total bytes = Ok (before, bytes)
-tablets_at upto next_file (suc n) before total bytes = tablet_at upto next_file before total bytes >>= λ x. tablets_at upto next_file n (before ++ x.0 ∷ []) total x.1
+abbrev pub next_tablet : (upto next_file total : ℕ) → List Listed → List ℕ → Result (List Listed × List ℕ) ℕ
+next_tablet upto next_file total before bytes = tablet_at upto next_file before total bytes >>= behind before
 
 -- ---- all of it
 
@@ -249,7 +284,7 @@ tablets_at upto next_file (suc n) before total bytes = tablet_at upto next_file 
 unfoldable pub listing_at : (upto next_file total : ℕ) (bytes : List ℕ) → Result (List Listed) ℕ
 listing_at upto next_file total bytes = do
   count ← number_at w32 total bytes
-  tablets ← tablets_at upto next_file count.0 [] total count.1
+  tablets ← repeated (next_tablet upto next_file total) count.0 [] count.1
   ended ← holds (length tablets.1 == 0) (place total tablets.1)
   Ok tablets.0
 

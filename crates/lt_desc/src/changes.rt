@@ -1,8 +1,5 @@
 //! The first schema and its changes.
-ghost use Rattle.std.specs.Prelude.{◌≡◌, ◌<◌, ◌≤◌, ◌^◌, [], IfOk, IsTrue, Some, None, length};
-ghost use Rattle.lt_schema.specs.Lawful.{is_schema};
-ghost use Rattle.lt_schema.specs.Versions.{alter_refusal};
-ghost use Rattle.lt_desc.specs.Reading.{Gives, append_at, widen_at, change_at, changes_at, first_at, schemas_at};
+ghost use Rattle.lt_desc.specs.Reading.{Gives, append_at, widen_at, change_at, repeated, next_change, first_at, schemas_at};
 
 use crate::columns::{column_of, columns_of};
 use crate::fault::DescError;
@@ -56,7 +53,6 @@ fn change_of<'a>(
     bytes: &'a [u8],
 ) -> Result<(Change, &'a [u8]), DescError>
     ensures exact { Gives (λ x. (x.0, x.1.now)) result (change_at schema.now total bytes.now) }
-    ensures admitted { IfOk result (λ x. alter_refusal schema.now x.0 ≡ None) }
 {
     let (tag, rest) = byte_at(total, bytes)?;
     holds(tag <= 1, place(total, bytes))?;
@@ -75,7 +71,7 @@ fn changes_of<'a>(
     total: u64,
     bytes: &'a [u8],
 ) -> Result<(Schemas, &'a [u8]), DescError>
-    ensures exact { Gives (λ x. (x.0, x.1.now)) result (changes_at count schemas total bytes.now) }
+    ensures exact { Gives (λ x. (x.0, x.1.now)) result (repeated (next_change total) count schemas bytes.now) }
 {
     let mut schemas = schemas;
     let mut rest = bytes;

@@ -4,7 +4,7 @@ ghost use Rattle.std.specs.Str.{is_utf8};
 ghost use Rattle.std.specs.List.{list_any};
 ghost use Rattle.lt_schema.specs.Lawful.{has_name};
 ghost use Rattle.lt_schema.specs.Names.{is_name};
-ghost use Rattle.lt_desc.specs.Reading.{Gives, Reads, kind_of, kind_at, value_at, is_new_name, may_be, blamed, column_at, columns_at};
+ghost use Rattle.lt_desc.specs.Reading.{Gives, Reads, kind_of, kind_at, value_at, is_new_name, may_be, blamed, column_at, repeated, next_column};
 
 use crate::fault::{DescError, Fault};
 use crate::fields::{byte_at, counted_of, holds, place, u32_at, u64_at};
@@ -155,7 +155,7 @@ pub fn columns_of<'a>(
     bytes: &'a [u8],
 ) -> Result<(Vec<Column>, &'a [u8]), DescError>
     requires { count ≤ 64 }
-    ensures exact { Gives (λ x. (x.0.items, x.1.now)) result (columns_at key_len count [] total bytes.now) }
+    ensures exact { Gives (λ x. (x.0.items, x.1.now)) result (repeated (next_column key_len total) count [] bytes.now) }
 {
     let mut columns = Vec::with_capacity(alloc, count as usize)?;
     let mut rest = bytes;

@@ -5,6 +5,7 @@
 mod changes;
 mod columns;
 mod decoding;
+mod earlier;
 mod encoding;
 mod fault;
 mod fields;

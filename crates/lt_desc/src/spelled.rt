@@ -5,7 +5,7 @@ ghost use Rattle.lt_schema.specs.Lawful.{has_lawful_default};
 ghost use Rattle.lt_schema.specs.Versions.{is_admitted};
 ghost use Rattle.lt_schema.specs.Values.{is_of_kind};
 ghost use Rattle.lt_desc.specs.Lawful.{fits_value, fits_column, fits_change, fits_tablet};
-ghost use Rattle.lt_desc.specs.Spelling.{counted, kind_byte, value_spelled, column_spelled, place_of, change_spelled, tablet_spelled, life_spelled};
+ghost use Rattle.lt_desc.specs.Spelling.{counted, kind_byte, value_spelled, column_spelled, place_of, change_spelled, numbers, tablet_spelled, life_spelled};
 
 use lt_rec::{Label, Listed, NoMemory};
 use lt_schema::{Change, Column, Kind, Schema, Value};
@@ -47,7 +47,10 @@ fn put_value(out: &mut Vec<u8>, kind: Kind, value: &Value) -> Result<(), NoMemor
             out.extend_from_slice(&number.to_be_bytes())?;
             Ok(())
         }
-        Value::Text(text) => put_counted(out, text.as_slice()),
+        Value::Text(text) => {
+            put_counted(out, text.as_slice())?;
+            Ok(())
+        }
         Value::Blob(bytes) => put_counted(out, bytes.as_slice()),
     }
 }
@@ -110,20 +113,35 @@ pub fn put_u64(out: &mut Vec<u8>, number: u64) -> Result<(), NoMemory>
     Ok(())
 }
 
+fn put_numbers(out: &mut Vec<u8>, list: &[u64]) -> Result<(), NoMemory>
+    ensures { OnOk result (out.new.items ≡ out.old.items ++ numbers list.now) }
+{
+    for number in list {
+        put_u64(out, *number)?;
+    }
+    Ok(())
+}
+
 #[tactic(auto, unfolding(crate::specs::Spelling::tablet_spelled))]
 pub fn put_tablet(out: &mut Vec<u8>, tablet: &Listed) -> Result<(), NoMemory>
     ensures ok { OnOk result (out.new.items ≡ out.old.items ++ tablet_spelled tablet.now) }
     ensures fits { OnOk result (IsTrue (fits_tablet tablet.now)) }
 {
-    put_u64(out, tablet.file)?;
-    put_u64(out, tablet.rows)?;
-    put_u64(out, tablet.bytes)?;
-    put_u64(out, tablet.low)?;
-    put_u64(out, tablet.high)?;
-    put_u64(out, tablet.period.start())?;
-    put_u64(out, tablet.period.len())?;
-    put_u64(out, tablet.first)?;
-    put_u64(out, tablet.last)
+    let (rows, bytes) = (tablet.rows, tablet.bytes);
+    put_numbers(
+        out,
+        &[
+            tablet.file,
+            rows,
+            bytes,
+            tablet.low,
+            tablet.high,
+            tablet.period.start(),
+            tablet.period.len(),
+            tablet.first,
+            tablet.last,
+        ],
+    )
 }
 
 #[tactic(auto, unfolding(crate::specs::Spelling::life_spelled))]
