@@ -1,10 +1,9 @@
 -- Columns and the first schema: what is read is so spelled, and what is so spelled is read.
-use Rattle.std.proofs.Common.{◌≡◌, ℕ, zero, suc, ◌+◌, ◌-◌, ◌^◌, ◌<◌, ◌≤◌, Bool, true, false, eqb, leb, ltb, List, [], ◌∷◌, ◌++◌, length, Result, Ok, Err, refl, sym, ap, subst, ◌∙◌, append_assoc, arith, inl, inr}
-use Rattle.std.specs.Prelude.{IsTrue, Option, Some, None, not, ◌&&◌, ◌||◌, slice_get, nat_le}
+use Rattle.std.proofs.Common.{◌≡◌, ℕ, zero, suc, ◌+◌, ◌-◌, ◌<◌, ◌≤◌, Bool, true, false, eqb, leb, List, [], ◌∷◌, ◌++◌, length, Result, Ok, refl, sym, ap, subst, ◌∙◌, append_assoc, arith, inl, inr}
+use Rattle.std.specs.Prelude.{IsTrue, Option, Some, None, not, ◌&&◌, ◌||◌, slice_get}
 use Rattle.std.specs.List.{list_all, list_any, flat_map}
 use Rattle.std.specs.Int.{w32, to_be_bytes}
-use Rattle.std.proofs.lemmas.Bool.{eqb-true, eq-eqb, ne_eqb, and_parts, and_from, leb-true, le-leb, cases_lt}
-use Rattle.std.proofs.lemmas.Bool.Decides.{nat_tests}
+use Rattle.std.proofs.lemmas.Bool.{eqb-true, eq-eqb, and_parts, and_from, leb-true, le-leb, cases_lt}
 use Rattle.std.proofs.lemmas.List.{length-append, append-nil}
 use Rattle.std.proofs.lemmas.List.Folds.{list_all-append, list_any-append}
 use Rattle.std.proofs.lemmas.Grind.{flat_map-append}
@@ -15,11 +14,11 @@ use Rattle.lt_schema.specs.Shapes.{ColumnShape, SchemaShape}
 use Rattle.lt_schema.specs.Names.{is_letter, is_name, is_name_byte}
 use Rattle.lt_schema.specs.Values.{is_of_kind}
 use Rattle.lt_schema.specs.Lawful.{has_name, names_differ, is_short, has_lawful_default, is_time_kind, is_time_column, is_schema}
-use Rattle.lt_schema.proofs.Growing.{IsLawful, lawful_from, lawful_to}
-use Rattle.lt_desc.specs.Lawful.{fits_value, fits_column}
+use Rattle.lt_schema.proofs.Growing.{lawful_from, lawful_to}
+use Rattle.lt_desc.specs.Lawful.{fits_column}
 use Rattle.lt_desc.specs.Spelling.{counted, kind_byte, value_spelled, column_spelled, first_spelled}
 use Rattle.lt_desc.specs.Reading.{◌>>=◌, place, asked, number_where, is_within, counted_at, kind_at, value_at, is_new_name, may_be, is_default, blamed, column_at, behind, repeated, next_column, first_at}
-use Rattle.lt_desc.proofs.Taken.{IsBytes, bind_ok, ok_is, asked_ok, asked_again, Takes, Takes-then, Takes-as, counted_takes, counted_again, where32, again_where32}
+use Rattle.lt_desc.proofs.Taken.{IsBytes, bind_ok, ok_is, asked_ok, asked_again, Takes, Takes-then, counted_takes, counted_again, where32, again_where32}
 use Rattle.lt_desc.proofs.First.{within_parts, within_from}
 use Rattle.lt_desc.proofs.Values.{kind_takes, kind_again, value_takes, value_again}
 use Rattle.lt_desc.proofs.Turns.{turns_keep}

@@ -1,5 +1,5 @@
 -- The first fields: what is read is so spelled, and what is so spelled is read.
-use Rattle.std.proofs.Common.{◌≡◌, ℕ, ◌+◌, ◌-◌, ◌^◌, ◌<◌, ◌≤◌, Bool, true, false, cond, eqb, leb, List, [], ◌∷◌, ◌++◌, length, Result, Ok, Err, refl, sym, ap, subst, ◌∙◌, append_assoc, arith}
+use Rattle.std.proofs.Common.{◌≡◌, ℕ, ◌-◌, ◌^◌, ◌<◌, ◌≤◌, Bool, true, false, cond, eqb, leb, List, [], ◌∷◌, ◌++◌, Result, Ok, refl, sym, ap, subst, ◌∙◌, append_assoc, arith}
 use Rattle.std.specs.Prelude.{Option, Some, None, IfSome, nat_eq}
 use Rattle.std.specs.Int.{w64, to_be_bytes}
 use Rattle.std.specs.Cmp.Lexicographic.{pointwise}
@@ -8,7 +8,7 @@ use Rattle.std.proofs.lemmas.Bool.Decides.{nat_tests}
 use Rattle.lt_desc.specs.declared.head.Head.{Head}
 use Rattle.lt_desc.specs.Spelling.{mark, life_spelled, head_spelled}
 use Rattle.lt_desc.specs.Reading.{◌>>=◌, place, asked, byte_at, bytes_at, number_where, is_within, mark_at, some_at, life_at, head_at}
-use Rattle.lt_desc.proofs.Taken.{IsBytes, bind_ok, ok_is, asked_ok, asked_again, Takes, Takes-then, Takes-as, Passed, byte_takes, bytes_take, bytes_again, where64, again_where64}
+use Rattle.lt_desc.proofs.Taken.{IsBytes, bind_ok, ok_is, asked_ok, asked_again, Takes, Takes-then, Takes-as, byte_takes, bytes_take, bytes_again, where64, again_where64}
 
 pub within_parts : (least most n : ℕ) → is_within least most n ≡ true → (least ≤ n) × (n ≤ most)
 within_parts least most n e =

@@ -1,21 +1,21 @@
 -- The list of tablets: what is read is so spelled, and what is so spelled is read.
-use Rattle.std.proofs.Common.{◌≡◌, ℕ, zero, suc, ◌+◌, ◌-◌, ◌%◌, ◌^◌, ◌<◌, ◌≤◌, Bool, true, false, eqb, leb, ltb, List, [], ◌∷◌, ◌++◌, length, Result, Ok, Err, refl, sym, ap, subst, ◌∙◌, append_assoc, arith}
-use Rattle.std.specs.Prelude.{IsTrue, Option, Some, None, not, ◌&&◌, ◌||◌, slice_get, nat_lt, nat_le}
+use Rattle.std.proofs.Common.{◌≡◌, ℕ, suc, ◌+◌, ◌-◌, ◌%◌, ◌^◌, ◌<◌, ◌≤◌, Bool, true, false, eqb, leb, ltb, List, [], ◌∷◌, ◌++◌, length, Result, Ok, refl, sym, ap, subst, ◌∙◌, append_assoc, arith}
+use Rattle.std.specs.Prelude.{not, ◌&&◌, ◌||◌, slice_get, nat_lt, nat_le}
 use Rattle.std.specs.Option.{option_map_or}
-use Rattle.std.specs.List.{list_all, list_any, flat_map, AllByRecursion}
+use Rattle.std.specs.List.{list_all, flat_map, AllByRecursion}
 use Rattle.std.specs.Int.{w32, w64, to_be_bytes}
 use Rattle.std.proofs.lemmas.Bool.{eqb-true, eq-eqb, ne_eqb, and_parts, and_from, ltb-true, lt-ltb, leb-true, le-leb}
 use Rattle.std.proofs.lemmas.List.{length-append, append-nil}
 use Rattle.std.proofs.lemmas.List.Folds.{list_any-append}
 use Rattle.std.proofs.lemmas.Grind.{flat_map-append}
-use Rattle.lt_rec.specs.Periods.{Stretch, IsPeriod, InPeriod, is_period_len}
+use Rattle.lt_rec.specs.Periods.{is_period_len}
 use Rattle.lt_rec.specs.declared.listed.Listed.{Listed}
 use Rattle.lt_desc.specs.declared.listing.Sizes.{Sizes}
 use Rattle.lt_desc.specs.declared.listing.Times.{Times}
-use Rattle.lt_desc.specs.Lawful.{lists_file, files_differ, comes_before, leads, rises, IsListed, fits_tablet}
-use Rattle.lt_desc.specs.Spelling.{numbers, entry_numbers, tablet_spelled, listing_spelled}
+use Rattle.lt_desc.specs.Lawful.{lists_file, files_differ, comes_before, rises, IsListed, fits_tablet}
+use Rattle.lt_desc.specs.Spelling.{tablet_spelled, listing_spelled}
 use Rattle.lt_desc.specs.Reading.{◌>>=◌, place, holds, number_at, number_where, is_within, follows, spans, sizes_at, stretch_at, times_at, span_at, listed_of, tablet_at, behind, repeated, next_tablet, listing_at}
-use Rattle.lt_desc.proofs.Taken.{IsBytes, bind_ok, ok_is, holds_ok, holds_again, Takes, Takes-then, Takes-as, takes32, takes64, again32, again64, where64, again_where64}
+use Rattle.lt_desc.proofs.Taken.{IsBytes, bind_ok, ok_is, holds_ok, Takes, Takes-then, Takes-as, takes32, takes64, again32, again64, where64, again_where64}
 use Rattle.lt_desc.proofs.First.{within_parts, within_from}
 use Rattle.lt_desc.proofs.Turns.{turns_keep}
 use Rattle.lt_desc.proofs.ColumnText.{not_true, not_false, not_or, or_not, all_more, all_here}

@@ -1,6 +1,6 @@
 -- Values, kinds and names: what is read is so spelled, and what is so spelled is read.
-use Rattle.std.proofs.Common.{◌≡◌, ℕ, suc, ◌+◌, ◌-◌, ◌^◌, ◌<◌, ◌≤◌, ℤ, pos, negsuc, Bool, true, false, cond, eqb, ltb, List, [], ◌∷◌, ◌++◌, length, Result, Ok, Err, refl, sym, ap, subst, ◌∙◌, append_assoc, arith, SFits}
-use Rattle.std.specs.Prelude.{T, IsTrue, Option, Some, None, nat_lt}
+use Rattle.std.proofs.Common.{◌≡◌, ℕ, suc, ◌-◌, ◌^◌, ◌<◌, ℤ, pos, negsuc, Bool, true, false, cond, eqb, ltb, List, [], ◌∷◌, ◌++◌, length, Result, Ok, refl, sym, ap, subst, ◌∙◌, arith, SFits}
+use Rattle.std.specs.Prelude.{T, Some, None, nat_lt}
 use Rattle.std.specs.Int.{w32, w64, to_be_bytes, cast_signed, cast_unsigned}
 use Rattle.std.specs.Str.{is_utf8}
 use Rattle.std.proofs.lemmas.Int.{to_z-of_z, of_z-to_z}

@@ -1,6 +1,5 @@
 -- All of a descriptor: what is read is so spelled, and what is so spelled is read.
-use Rattle.std.proofs.Common.{◌≡◌, ℕ, ◌+◌, ◌^◌, ◌<◌, ◌≤◌, true, List, ◌++◌, length, Result, Ok, refl, sym, ap, subst, ◌∙◌, append_assoc}
-use Rattle.std.specs.Prelude.{IsTrue}
+use Rattle.std.proofs.Common.{◌≡◌, ℕ, List, ◌++◌, length, Result, Ok, ap, subst, ◌∙◌}
 use Rattle.lt_rec.specs.declared.listed.Listed.{Listed}
 use Rattle.lt_schema.specs.Versions.{SchemaVersions}
 use Rattle.lt_desc.specs.declared.head.Head.{Head}
@@ -9,9 +8,9 @@ use Rattle.lt_desc.specs.Lawful.{IsStone, Fits}
 use Rattle.lt_desc.specs.Spelling.{head_spelled, schemas_spelled, listing_spelled, head_of, spelling}
 use Rattle.lt_desc.specs.Reading.{◌>>=◌, head_at, schemas_at, listing_at, stone_at}
 use Rattle.lt_desc.proofs.Taken.{IsBytes, bind_ok, ok_is}
-use Rattle.lt_desc.proofs.First.{IsHead, head_takes, head_again}
+use Rattle.lt_desc.proofs.First.{head_takes, head_again}
 use Rattle.lt_desc.proofs.ChangeText.{schemas_takes, schemas_again}
-use Rattle.lt_desc.proofs.ListingText.{AreListed, listing_takes, listing_again}
+use Rattle.lt_desc.proofs.ListingText.{listing_takes, listing_again}
 
 abbrev pub stone_of : Head → SchemaVersions → List Listed → StoneShape
 stone_of head schemas tablets = record { upto = head.upto; low = head.low; ttl = head.ttl; next_file = head.next_file; schemas = schemas; tablets = tablets }

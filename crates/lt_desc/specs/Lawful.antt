@@ -1,5 +1,5 @@
 -- What a stone keeps.
-use Rattle.std.specs.Prelude.{ℕ, ◌^◌, ◌<◌, ◌≤◌, Bool, true, not, ◌&&◌, ◌||◌, ◌==◌, nat_lt, List, [], ◌∷◌, length, Option, IfSome, IsTrue}
+use Rattle.std.specs.Prelude.{ℕ, ◌^◌, ◌<◌, ◌≤◌, Bool, true, not, ◌&&◌, ◌||◌, ◌==◌, nat_lt, List, [], ◌∷◌, length, IfSome, IsTrue}
 use Rattle.std.specs.List.{list_all, list_any, AllByRecursion}
 use Rattle.std.specs.Str.{is_utf8}
 use Rattle.std.specs.Prelude.{ℤ, pos, negsuc}
@@ -10,7 +10,7 @@ use Rattle.lt_schema.specs.declared.change.Change.TheVariants.{Append, Widen}
 use Rattle.lt_schema.specs.declared.value.Value.{Value}
 use Rattle.lt_schema.specs.declared.value.Value.TheVariants.{Int, Text, Blob}
 use Rattle.lt_schema.specs.Shapes.{ColumnShape}
-use Rattle.lt_schema.specs.Versions.{SchemaVersions, is_versions}
+use Rattle.lt_schema.specs.Versions.{is_versions}
 use Rattle.lt_desc.specs.Shape.{StoneShape}
 
 -- ---- the list of tablets

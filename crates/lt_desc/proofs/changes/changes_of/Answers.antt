@@ -1,9 +1,9 @@
-use Rattle.std.proofs.Common.{◌≡◌, ℕ, None, sym, subst, arith, get_or}
+use Rattle.std.proofs.Common.{◌≡◌, None, sym, subst}
 use Rattle.std.specs.Prelude.{IsTrue}
 use Rattle.std.proofs.lemmas.Result.{err_from_is_err_and}
 use Rattle.lt_schema.specs.Shapes.{SchemaShape}
 use Rattle.lt_schema.specs.Lawful.{is_schema}
-use Rattle.lt_schema.specs.Versions.{SchemaVersions, newest, alter_refusal}
+use Rattle.lt_schema.specs.Versions.{alter_refusal}
 use Rattle.lt_desc.specs.Reading.{repeated, next_change}
 use Rattle.lt_desc.proofs.Turns.{turn_next, turn_fails, turns_done, version_ok, version_fails}
 use Rattle.lt_desc.proofs.ChangeText.{change_may, change_rest}

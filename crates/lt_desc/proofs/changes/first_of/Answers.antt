@@ -1,6 +1,5 @@
-use Rattle.std.proofs.Common.{◌≡◌, ◌<◌, ◌+◌, ℕ, List, get_or, sym, subst, ap, arith}
+use Rattle.std.proofs.Common.{List, sym, subst, arith}
 use Rattle.std.specs.Prelude.{IsTrue}
-use Rattle.std.specs.Int.{w32}
 use Rattle.lt_schema.specs.Shapes.{ColumnShape}
 use Rattle.lt_schema.specs.Lawful.{is_schema}
 use Rattle.lt_desc.specs.Reading.{is_within}

@@ -1,8 +1,7 @@
-use Rattle.std.proofs.Common.{◌≡◌, ◌≤◌, ◌+◌, List, ℕ, [], length, ◌∙◌, ap, arith, ◌++◌, ◌∷◌}
+use Rattle.std.proofs.Common.{◌≡◌, [], length, ap, arith, ◌++◌, ◌∷◌}
 use Rattle.std.proofs.lemmas.List.{length-append}
 use Rattle.std.specs.Prelude.{None}
 use Rattle.std.proofs.lemmas.Result.{err_from_is_err_and}
-use Rattle.lt_schema.specs.Shapes.{ColumnShape}
 use Rattle.lt_desc.specs.Reading.{column_at, repeated, next_column}
 use Rattle.lt_desc.proofs.Turns.{turn_next, turn_fails, turns_done, next_ok, next_fails}
 use Rattle.lt_desc.proofs.columns.columns_of.Goals as goal

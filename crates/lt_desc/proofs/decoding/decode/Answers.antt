@@ -1,9 +1,7 @@
-use Rattle.std.proofs.Common.{◌≡◌, ◌<◌, ℕ, List, Ok, get_or, length, sym, ap, subst, ◌∙◌, arith}
+use Rattle.std.proofs.Common.{List, sym, ap, subst, ◌∙◌, arith}
 use Rattle.lt_rec.specs.declared.listed.Listed.{Listed}
-use Rattle.lt_desc.specs.Shape.{StoneShape}
 use Rattle.lt_desc.specs.Lawful.{IsStone}
 use Rattle.lt_desc.specs.Spelling.{spelling}
-use Rattle.lt_desc.specs.Reading.{stone_at}
 use Rattle.lt_desc.proofs.Whole.{stone_of, stone_read, stone_takes}
 use Rattle.lt_desc.proofs.decoding.decode.Goals as goal
 

@@ -1,5 +1,4 @@
-use Rattle.std.proofs.Common.{◌≡◌, ℕ, List, Ok, ap, ◌∙◌}
-use Rattle.lt_desc.specs.Spelling.{spelling}
+use Rattle.std.proofs.Common.{ap, ◌∙◌}
 use Rattle.lt_desc.specs.Reading.{stone_at}
 use Rattle.lt_desc.proofs.Whole.{stone_again}
 use Rattle.lt_desc.proofs.encoding.encode.Goals as goal

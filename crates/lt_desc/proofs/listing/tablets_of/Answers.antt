@@ -1,4 +1,4 @@
-use Rattle.std.proofs.Common.{◌≡◌, ◌∙◌, [], List, ℕ, ap, Ok, sym}
+use Rattle.std.proofs.Common.{◌∙◌, [], List, ap, Ok, sym}
 use Rattle.std.proofs.lemmas.Result.{err_from_is_err_and}
 use Rattle.lt_rec.specs.declared.listed.Listed.{Listed}
 use Rattle.lt_desc.specs.Reading.{repeated, next_tablet}
