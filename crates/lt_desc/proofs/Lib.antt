@@ -5,5 +5,7 @@ pub mod First
 pub mod Values
 pub mod ColumnText
 pub mod ChangeText
+pub mod TabletText
 pub mod ListingText
 pub mod Whole
+pub mod Growth

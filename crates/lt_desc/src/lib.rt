@@ -19,6 +19,9 @@ mod tablets;
 pub use decoding::decode;
 pub use encoding::encode;
 pub use fault::DescError;
-pub use laws::descriptor_laws;
+pub use laws::{descriptor_laws, stones_stay_lawful};
 pub use stone::Stone;
 pub use tablets::Tablets;
+
+#[cfg(test)]
+mod tests;
