@@ -1,3 +1,6 @@
+mod Kept
 mod Orders
-mod Swap
+mod Pictures
 mod Removal
+mod Spared
+mod Swap

@@ -21,12 +21,17 @@ joined_further : (bytes : List ℕ) (before state after : State) → (state.may 
 joined_further bytes before state after first then =
     ⊎_elim (λ same. ⊎_elim (λ was. inl (same ∙ was)) (λ new. inr (subst (λ may. Contains may (Some bytes)) (sym same) new)) first) (λ new. inr new) then
 
-pub replacing : (bytes : List ℕ) → IsPreorder (Replaces bytes)
-replacing bytes = record {
-  itself = λ state. record { files = refl; ceiling = omega arith; old_or_new = λ d was. inl was; joined = inl refl };
+ceiling_further : (number : ℕ) (before state after : State) → (state.ceiling ≡ before.ceiling) ⊎ (state.ceiling ≡ number + 1) → (after.ceiling ≡ state.ceiling) ⊎ (after.ceiling ≡ number + 1)
+    → (after.ceiling ≡ before.ceiling) ⊎ (after.ceiling ≡ number + 1)
+ceiling_further number before state after first then =
+    ⊎_elim (λ same. ⊎_elim (λ was. inl (same ∙ was)) (λ new. inr (same ∙ new)) first) (λ new. inr new) then
+
+pub replacing : (number : ℕ) (bytes : List ℕ) → IsPreorder (Replaces number bytes)
+replacing number bytes = record {
+  itself = λ state. record { files = refl; ceiling = inl refl; old_or_new = λ d was. inl was; joined = inl refl };
   further = λ before state after first then. record {
     files = then.files ∙ first.files;
-    ceiling = omega (arith, first.ceiling, then.ceiling);
+    ceiling = ceiling_further number before state after first.ceiling then.ceiling;
     old_or_new = λ d is. ⊎_elim (λ was. first.old_or_new d was) (λ new. inr new) (then.old_or_new d is);
     joined = joined_further bytes before state after first.joined then.joined;
   };
@@ -54,24 +59,24 @@ narrows_settled state descriptor was = record {
   possible = λ d is. subst (Contains state.may) (only_one descriptor d is) was;
 }
 
--- a number is lent
-pub replaces_raised : (bytes : List ℕ) (state : State) (ceiling : ℕ) → state.ceiling ≤ ceiling → Replaces bytes state (raised state ceiling)
-replaces_raised bytes state ceiling up = record { files = refl; ceiling = up; old_or_new = λ d was. inl was; joined = inl refl }
+-- the number is lent
+pub replaces_raised : (number : ℕ) (bytes : List ℕ) (state : State) → Replaces number bytes state (raised state (number + 1))
+replaces_raised number bytes state = record { files = refl; ceiling = inr refl; old_or_new = λ d was. inl was; joined = inl refl }
 
 -- the new descriptor joins
-pub replaces_pointed : (bytes : List ℕ) (state : State) → Replaces bytes state (pointed state bytes)
-replaces_pointed bytes state = record {
+pub replaces_pointed : (number : ℕ) (bytes : List ℕ) (state : State) → Replaces number bytes state (pointed state bytes)
+replaces_pointed number bytes state = record {
   files = refl;
-  ceiling = omega arith;
+  ceiling = inl refl;
   old_or_new = λ d is. ⊎_elim (λ was. inl was) (λ new. inr (sym new)) (Contains-push_cases state.may (Some bytes) d is);
   joined = inr (Contains-push state.may (Some bytes));
 }
 
 -- it is settled
-pub replaces_settled : (bytes : List ℕ) (state : State) (descriptor : Option (List ℕ)) → descriptor ≡ Some bytes → Replaces bytes state (settled state descriptor)
-replaces_settled bytes state descriptor new = record {
+pub replaces_settled : (number : ℕ) (bytes : List ℕ) (state : State) (descriptor : Option (List ℕ)) → descriptor ≡ Some bytes → Replaces number bytes state (settled state descriptor)
+replaces_settled number bytes state descriptor new = record {
   files = refl;
-  ceiling = omega arith;
+  ceiling = inl refl;
   old_or_new = λ d is. inr (sym (only_one descriptor d is) ∙ new);
   joined = inr (subst (λ d. Contains (descriptor ∷ []) d) new (Contains-push [] descriptor));
 }

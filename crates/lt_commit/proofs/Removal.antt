@@ -7,7 +7,7 @@ use Rattle.lt_io.specs.Device.{RemovesFile, SeesOthers, KeepsLent}
 use Rattle.lt_io.specs.declared.device_error.DeviceError.{DeviceError}
 use Rattle.lt_io.specs.declared.device_error.DeviceError.TheVariants.{Failed, NoMemory}
 use Rattle.lt_io.specs.Steps.{Steps}
-use Rattle.lt_io.proofs.Chains.{Steps-none, Steps-join, Steps-removed}
+use Rattle.lt_io.proofs.Chains.{Steps-none, Steps-join, Steps-removed, Steps-weaken}
 use Rattle.lt_commit.specs.Moments.{Sweeps}
 use Rattle.lt_commit.specs.Swept.{SeesKept}
 use Rattle.lt_commit.proofs.Orders.{sweeping, sweeps_loosened}
@@ -50,3 +50,29 @@ gone_one old new files at within sees gone so_far file is =
 
 pub lent_on : (first old new : Directory) → KeepsLent first old → KeepsLent old new → KeepsLent first new
 lent_on first old new so_far more = record { ceiling = more.ceiling ∙ so_far.ceiling; lends = more.lends ∙ so_far.lends }
+
+-- ---- more may go than those that did
+
+pub steps_wider : (goes wider : ℕ → Type 0) → ((number : ℕ) → goes number → wider number) → (old new : Directory) → Steps (Sweeps goes) old new → Steps (Sweeps wider) old new
+steps_wider goes wider so old new steps =
+    Steps-weaken (Sweeps goes) (Sweeps wider)
+    (λ before after sweeps. record {
+      stands = λ number bytes stays e. sweeps.stands number bytes (λ gone. stays (so number gone)) e;
+      stood = sweeps.stood;
+      may = sweeps.may;
+      ceiling = sweeps.ceiling;
+    })
+    old new steps
+
+pub sees_wider : (goes wider : ℕ → Type 0) → ((number : ℕ) → goes number → wider number) → (old new : Image) → SeesKept goes old new → SeesKept wider old new
+sees_wider goes wider so old new sees = record { descriptor = sees.descriptor; files = λ number stays. sees.files number (λ gone. stays (so number gone)) }
+
+pub swept : (goes : ℕ → Type 0) (gone slice : List ℕ) (held old new : Directory) → held ≡ old → slice ≡ gone → ((number : ℕ) → Contains gone number → goes number) → Steps (Sweeps (Contains slice)) held new → Steps (Sweeps goes) old new
+swept goes gone slice held old new same slice_is so steps =
+    subst (λ d. Steps (Sweeps goes) d new) same
+    (steps_wider (Contains slice) goes (λ number is. so number (subst (λ l. Contains l number) slice_is is)) held new steps)
+
+pub sees_swept : (goes : ℕ → Type 0) (gone slice : List ℕ) (held old : Directory) (new : Image) → held ≡ old → slice ≡ gone → ((number : ℕ) → Contains gone number → goes number) → SeesKept (Contains slice) held.seen new → SeesKept goes old.seen new
+sees_swept goes gone slice held old new same slice_is so sees =
+    subst (λ d. SeesKept goes d.seen new) same
+    (sees_wider (Contains slice) goes (λ number is. so number (subst (λ l. Contains l number) slice_is is)) held.seen new sees)

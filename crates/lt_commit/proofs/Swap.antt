@@ -7,13 +7,13 @@ use Rattle.lt_io.proofs.Chains.{Steps-join, Steps-same, Steps-pointed, Steps-set
 use Rattle.lt_commit.specs.Moments.{Narrows, Replaces}
 use Rattle.lt_commit.proofs.Orders.{narrowing, replacing, narrows_settled, replaces_pointed, replaces_settled}
 
-pub pointing : {E : Type 0} (old new : Directory) (bytes : List ℕ) (result : Result (Unit {0}) E) → PointsAt old new bytes result → Steps (Replaces bytes) old new
-pointing old new bytes result points = Steps-pointed (Replaces bytes) (replacing bytes) old new bytes result points (replaces_pointed bytes old.now)
+pub pointing : {E : Type 0} (old new : Directory) (number : ℕ) (bytes : List ℕ) (result : Result (Unit {0}) E) → PointsAt old new bytes result → Steps (Replaces number bytes) old new
+pointing old new number bytes result points = Steps-pointed (Replaces number bytes) (replacing number bytes) old new bytes result points (replaces_pointed number bytes old.now)
 
-pub pointing_and_settling : {E : Type 0} (old middle new : Directory) (bytes : List ℕ) (result : Result (Unit {0}) E) → PointsAt {E = E} old middle bytes (Ok tt) → Settles middle new result → Steps (Replaces bytes) old new
-pointing_and_settling {E} old middle new bytes result points settles =
-    Steps-join (Replaces bytes) (replacing bytes) old middle new (pointing {E = E} old middle bytes (Ok tt) points)
-    (Steps-settled (Replaces bytes) (replacing bytes) middle new result settles (replaces_settled bytes middle.now middle.seen.descriptor points.current))
+pub pointing_and_settling : {E : Type 0} (old middle new : Directory) (number : ℕ) (bytes : List ℕ) (result : Result (Unit {0}) E) → PointsAt {E = E} old middle bytes (Ok tt) → Settles middle new result → Steps (Replaces number bytes) old new
+pointing_and_settling {E} old middle new number bytes result points settles =
+    Steps-join (Replaces number bytes) (replacing number bytes) old middle new (pointing {E = E} old middle number bytes (Ok tt) points)
+    (Steps-settled (Replaces number bytes) (replacing number bytes) middle new result settles (replaces_settled number bytes middle.now middle.seen.descriptor points.current))
 
 pub settling : {E : Type 0} (old new : Directory) (result : Result (Unit {0}) E) → Fits old.seen old.now → Settles old new result → Steps Narrows old new
 settling old new result fits settles = Steps-settled Narrows narrowing old new result settles (narrows_settled old.now old.seen.descriptor fits.descriptor)

@@ -1,2 +1,4 @@
+pub mod Anchored
+pub mod Causes
 pub mod Moments
 pub mod Swept

@@ -1,6 +1,6 @@
 -- What the calls of an anchor make of a directory, one moment after another.
-use Rattle.std.specs.Prelude.{◌≡◌, ◌⊎◌, ◌≤◌, ◌+◌, ℕ, List, [], ◌∷◌, Option, Some, Contains}
-use Rattle.lt_io.specs.Directory.{State, Image, file_at, pointed, settled, raised}
+use Rattle.std.specs.Prelude.{◌≡◌, ◌⊎◌, ◌+◌, ℕ, List, [], ◌∷◌, Option, Some, Contains}
+use Rattle.lt_io.specs.Directory.{State, file_at, pointed, settled, raised}
 
 -- while a directory is opened: the files stand, and each possible descriptor was possible before
 pub record Narrows (before after : State) : Type 0 where
@@ -8,10 +8,11 @@ pub record Narrows (before after : State) : Type 0 where
   pub ceiling : after.ceiling ≡ before.ceiling
   pub possible : (descriptor : Option (List ℕ)) → Contains after.may descriptor → Contains before.may descriptor
 
--- while a descriptor is replaced: the files stand, and each possible descriptor was possible before or is the new one
-pub record Replaces (bytes : List ℕ) (before after : State) : Type 0 where
+-- while a descriptor is replaced: the files stand, the number may be lent, and each possible descriptor was possible before
+-- or is the new one
+pub record Replaces (number : ℕ) (bytes : List ℕ) (before after : State) : Type 0 where
   pub files : after.files ≡ before.files
-  pub ceiling : before.ceiling ≤ after.ceiling
+  pub ceiling : (after.ceiling ≡ before.ceiling) ⊎ (after.ceiling ≡ number + 1)
   pub old_or_new : (descriptor : Option (List ℕ)) → Contains after.may descriptor → Contains before.may descriptor ⊎ (descriptor ≡ Some bytes)
   pub joined : (after.may ≡ before.may) ⊎ Contains after.may (Some bytes)
 

@@ -1,7 +1,11 @@
-//! The replaced descriptor of a directory: which descriptors a stop may leave after each call, and which files a sweep
-//! takes away.
+//! The replaced descriptor of a directory: which stones a stop may leave after each call, and which files a sweep takes.
 #![tactic(auto)]
 
+mod anchor;
+mod errors;
 mod opening;
 mod publishing;
 mod sweeping;
+
+pub use anchor::Anchor;
+pub use errors::{CommitError, FreshError, LoadError};
