@@ -28,10 +28,11 @@ ceiling_further number before state after first then =
 
 pub replacing : (number : ℕ) (bytes : List ℕ) → IsPreorder (Replaces number bytes)
 replacing number bytes = record {
-  itself = λ state. record { files = refl; ceiling = inl refl; old_or_new = λ d was. inl was; joined = inl refl };
+  itself = λ state. record { files = refl; ceiling = inl refl; no_lower = omega arith; old_or_new = λ d was. inl was; joined = inl refl };
   further = λ before state after first then. record {
     files = then.files ∙ first.files;
     ceiling = ceiling_further number before state after first.ceiling then.ceiling;
+    no_lower = omega (arith, first.no_lower, then.no_lower);
     old_or_new = λ d is. ⊎_elim (λ was. first.old_or_new d was) (λ new. inr new) (then.old_or_new d is);
     joined = joined_further bytes before state after first.joined then.joined;
   };
@@ -48,7 +49,7 @@ sweeping goes = record {
   };
 }
 
-only_one : (x d : Option (List ℕ)) → Contains (x ∷ []) d → x ≡ d
+pub only_one : {X : Type 0} (x d : X) → Contains (x ∷ []) d → x ≡ d
 only_one x d is = ⊎_elim (λ none. absurd (omega (arith, none.1))) (λ same. same) (Contains-push_cases [] x d is)
 
 -- a descriptor that was possible is settled
@@ -60,14 +61,15 @@ narrows_settled state descriptor was = record {
 }
 
 -- the number is lent
-pub replaces_raised : (number : ℕ) (bytes : List ℕ) (state : State) → Replaces number bytes state (raised state (number + 1))
-replaces_raised number bytes state = record { files = refl; ceiling = inr refl; old_or_new = λ d was. inl was; joined = inl refl }
+pub replaces_raised : (number : ℕ) (bytes : List ℕ) (state : State) → state.ceiling ≤ number → Replaces number bytes state (raised state (number + 1))
+replaces_raised number bytes state unlent = record { files = refl; ceiling = inr refl; no_lower = omega arith; old_or_new = λ d was. inl was; joined = inl refl }
 
 -- the new descriptor joins
 pub replaces_pointed : (number : ℕ) (bytes : List ℕ) (state : State) → Replaces number bytes state (pointed state bytes)
 replaces_pointed number bytes state = record {
   files = refl;
   ceiling = inl refl;
+  no_lower = omega arith;
   old_or_new = λ d is. ⊎_elim (λ was. inl was) (λ new. inr (sym new)) (Contains-push_cases state.may (Some bytes) d is);
   joined = inr (Contains-push state.may (Some bytes));
 }
@@ -77,6 +79,7 @@ pub replaces_settled : (number : ℕ) (bytes : List ℕ) (state : State) (descri
 replaces_settled number bytes state descriptor new = record {
   files = refl;
   ceiling = inl refl;
+  no_lower = omega arith;
   old_or_new = λ d is. inr (sym (only_one descriptor d is) ∙ new);
   joined = inr (subst (λ d. Contains (descriptor ∷ []) d) new (Contains-push [] descriptor));
 }

@@ -25,10 +25,12 @@ newest (stone ∷ []) = stone
 newest (older ∷ stone ∷ more) = newest (stone ∷ more)
 
 -- What holds of each anchor: where its device tells, the possible descriptors are those of its stones, and what a read
--- gives is possible. 'No descriptor' joined last only where nothing else is possible.
+-- gives is possible. Each stone is read back from its descriptor. 'No descriptor' joined last only where nothing else is
+-- possible.
 pub record IsAnchored (told : Bool) (anchor : Anchored) : Type 0 where
   pub possible : told ≡ true → anchor.directory.now.may ≡ map spelled anchor.may
   pub seen : told ≡ true → Fits anchor.directory.seen anchor.directory.now
+  pub readable : (stone : StoneShape) → Contains anchor.may (Some stone) → stone_at (spelling stone) ≡ Ok stone
   pub none : newest anchor.may ≡ None → anchor.may ≡ None ∷ []
 
 -- from the start of the call on, each possible image was possible before it

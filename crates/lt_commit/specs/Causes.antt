@@ -7,6 +7,8 @@ use Rattle.lt_commit.specs.declared.errors.FreshError.{FreshError}
 use Rattle.lt_commit.specs.declared.errors.FreshError.TheVariants as fresh
 use Rattle.lt_commit.specs.declared.errors.LoadError.{LoadError}
 use Rattle.lt_commit.specs.declared.errors.LoadError.TheVariants as load
+use Rattle.lt_commit.specs.declared.errors.CreateError.{CreateError}
+use Rattle.lt_commit.specs.declared.errors.CreateError.TheVariants as create
 use Rattle.lt_commit.specs.declared.errors.CommitError.{CommitError}
 use Rattle.lt_commit.specs.declared.errors.CommitError.TheVariants as commit
 
@@ -25,3 +27,13 @@ read_refusal desc.NoMemory = load.NoMemory
 abbrev pub commit_refusal : DeviceError → CommitError
 commit_refusal device.Failed = commit.Fault
 commit_refusal device.NoMemory = commit.NoMemory
+
+abbrev pub begin_refusal : FreshError → CreateError
+begin_refusal fresh.Exists = create.Exists
+begin_refusal fresh.Fault = create.Fault
+begin_refusal fresh.NoMemory = create.NoMemory
+
+abbrev pub end_refusal : CommitError → CreateError
+end_refusal commit.Spent = create.Spent
+end_refusal commit.Fault = create.Fault
+end_refusal commit.NoMemory = create.NoMemory

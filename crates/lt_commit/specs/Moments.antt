@@ -1,5 +1,5 @@
 -- What the calls of an anchor make of a directory, one moment after another.
-use Rattle.std.specs.Prelude.{◌≡◌, ◌⊎◌, ◌+◌, ℕ, List, [], ◌∷◌, Option, Some, Contains}
+use Rattle.std.specs.Prelude.{◌≡◌, ◌⊎◌, ◌≤◌, ◌+◌, ℕ, List, [], ◌∷◌, Option, Some, Contains}
 use Rattle.lt_io.specs.Directory.{State, file_at, pointed, settled, raised}
 
 -- while a directory is opened: the files stand, and each possible descriptor was possible before
@@ -13,6 +13,7 @@ pub record Narrows (before after : State) : Type 0 where
 pub record Replaces (number : ℕ) (bytes : List ℕ) (before after : State) : Type 0 where
   pub files : after.files ≡ before.files
   pub ceiling : (after.ceiling ≡ before.ceiling) ⊎ (after.ceiling ≡ number + 1)
+  pub no_lower : before.ceiling ≤ after.ceiling
   pub old_or_new : (descriptor : Option (List ℕ)) → Contains after.may descriptor → Contains before.may descriptor ⊎ (descriptor ≡ Some bytes)
   pub joined : (after.may ≡ before.may) ⊎ Contains after.may (Some bytes)
 

@@ -1,6 +1,7 @@
 ghost use Rattle.std.specs.Prelude.{◌≡◌};
-ghost use Rattle.lt_commit.specs.Causes.{fresh_refusal, load_refusal, read_refusal, commit_refusal};
+ghost use Rattle.lt_commit.specs.Causes.{fresh_refusal, load_refusal, read_refusal, commit_refusal, begin_refusal, end_refusal};
 ghost use Rattle.lt_commit.specs.declared.errors.CommitError.TheVariants as commit_errors;
+ghost use Rattle.lt_commit.specs.declared.errors.CreateError.TheVariants as create_errors;
 
 use lt_desc::DescError;
 use lt_io::{DeviceError, Failed};
@@ -25,6 +26,19 @@ pub enum LoadError {
     NoTable,
     /// The descriptor breaks a rule; the offset is the one that its decoding names.
     Bad { at: u64 },
+    /// The device failed. Its count of faults rose.
+    Fault,
+    /// Memory ran out.
+    NoMemory,
+}
+
+/// Why no table was made.
+#[derive(Clone, Copy, Debug, PartialEq, Eq)]
+pub enum CreateError {
+    /// There is a descriptor.
+    Exists,
+    /// No file number is left.
+    Spent,
     /// The device failed. Its count of faults rose.
     Fault,
     /// Memory ran out.
@@ -107,5 +121,37 @@ impl From<AllocError> for CommitError {
 
     fn from(_refused: AllocError) -> CommitError {
         CommitError::NoMemory
+    }
+}
+
+impl From<FreshError> for CreateError {
+    ghost from_gives = { λ refused e. e ≡ begin_refusal refused };
+
+    fn from(refused: FreshError) -> CreateError {
+        match refused {
+            FreshError::Exists => CreateError::Exists,
+            FreshError::Fault => CreateError::Fault,
+            FreshError::NoMemory => CreateError::NoMemory,
+        }
+    }
+}
+
+impl From<CommitError> for CreateError {
+    ghost from_gives = { λ refused e. e ≡ end_refusal refused };
+
+    fn from(refused: CommitError) -> CreateError {
+        match refused {
+            CommitError::Spent => CreateError::Spent,
+            CommitError::Fault => CreateError::Fault,
+            CommitError::NoMemory => CreateError::NoMemory,
+        }
+    }
+}
+
+impl From<NoMemory> for CreateError {
+    ghost from_gives = { λ _ e. e ≡ create_errors.NoMemory };
+
+    fn from(_refused: NoMemory) -> CreateError {
+        CreateError::NoMemory
     }
 }

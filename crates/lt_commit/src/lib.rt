@@ -2,10 +2,11 @@
 #![tactic(auto)]
 
 mod anchor;
+mod creating;
 mod errors;
 mod opening;
 mod publishing;
 mod sweeping;
 
 pub use anchor::Anchor;
-pub use errors::{CommitError, FreshError, LoadError};
+pub use errors::{CommitError, CreateError, FreshError, LoadError};

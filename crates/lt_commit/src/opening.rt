@@ -15,10 +15,7 @@ use lt_rec::Octets;
 use std::alloc::Global;
 
 /// Makes the descriptor that a read gives the only possible one, and gives its bytes, if there is one.
-fn settle_and_read<V: Device>(
-    dev: &mut V,
-    dir: &mut V::Dir,
-) -> Result<Option<Octets>, DeviceError>
+fn settle_and_read<V: Device>(dev: &mut V, dir: &mut V::Dir) -> Result<Option<Octets>, DeviceError>
     ensures any_moment { V.honest ≡ true → Steps Narrows (V.directory dir.old) (V.directory dir.new) }
     ensures current { V.honest ≡ true → IfOk result (λ found. found ≡ (V.directory dir.old).seen.descriptor) }
     ensures only { V.honest ≡ true → IfOk result (λ found. (V.directory dir.new).now.may ≡ found ∷ []) }
@@ -64,6 +61,7 @@ pub(crate) fn find_stone<V: Device>(
     ensures exact { V.honest ≡ true → IfOk result (λ found. option_map stone_at (V.directory dir.old).seen.descriptor ≡ Some (Ok found.0)) }
     ensures only { V.honest ≡ true → IfOk result (λ found. (V.directory dir.new).now.may ≡ Some (spelling found.0) ∷ []) }
     ensures lawful { IfOk result (λ found. IsStone found.0) }
+    ensures readable { IfOk result (λ found. stone_at (spelling found.0) ≡ Ok found.0) }
     ensures seen { V.honest ≡ true → (V.directory dir.new).seen ≡ (V.directory dir.old).seen }
     ensures possible { V.honest ≡ true → Fits (V.directory dir.new).seen (V.directory dir.new).now }
     ensures free { IfOk result (λ found. (V.directory dir.old).now.ceiling ≤ found.1) }

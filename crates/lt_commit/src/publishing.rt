@@ -1,8 +1,9 @@
-ghost use Rattle.std.specs.Prelude.{◌≡◌, ◌⊎◌, ◌≤◌, ◌<◌, ◌+◌, ◌^◌, ◌∷◌, ◌++◌, [], ℕ, Some, true, IfOk, OnOk, OnErr, IsErrOf, vec_len, vec_capacity};
+ghost use Rattle.std.specs.Prelude.{◌≡◌, ◌⊎◌, ◌≤◌, ◌<◌, ◌+◌, ◌^◌, ◌∷◌, ◌++◌, [], ℕ, Some, Ok, true, IfOk, OnOk, OnErr, IsErrOf, vec_len, vec_capacity};
 ghost use Rattle.lt_io.specs.Cause.{HasCause};
 ghost use Rattle.lt_io.specs.Device.{Counts, KeepsLent};
 ghost use Rattle.lt_io.specs.Directory.{Image, Fits, PossibleAt, moment, lent, settled, pointed};
 ghost use Rattle.lt_io.specs.Steps.{Steps};
+ghost use Rattle.lt_desc.specs.Reading.{stone_at};
 ghost use Rattle.lt_desc.specs.Spelling.{spelling};
 ghost use Rattle.lt_commit.specs.Anchored.{IsAnchored};
 ghost use Rattle.lt_commit.specs.Moments.{Replaces, either, replaced};
@@ -10,8 +11,21 @@ ghost use Rattle.lt_commit.specs.Moments.{Replaces, either, replaced};
 use crate::anchor::Anchor;
 use crate::errors::CommitError;
 use lt_desc::{Stone, encode};
-use lt_io::{Device, Failed, write_file};
+use lt_io::{Device, DeviceError, Failed};
 use std::alloc::Global;
+
+/// Writes the bytes to a file of their own. No moment goes by.
+fn write_file<V: Device>(dev: &mut V, lent: V::Lent, bytes: &[u8]) -> Result<V::Reader, DeviceError>
+    ensures bytes { V.honest ≡ true → IfOk result (λ reader. V.reader_bytes reader ≡ bytes.now) }
+    ensures cause { Counts (V.faults dev.old) (V.faults dev.new) (IsErrOf result DeviceError.Failed) }
+{
+    let mut pen = match dev.create(lent) {
+        Ok(pen) => pen,
+        Err((_, refused)) => return Err(refused),
+    };
+    dev.append(&mut pen, bytes)?;
+    dev.seal(pen)
+}
 
 /// Lends the number, and writes the stone's spelling to a file of its own. Makes room for a point and a settle. No moment
 /// goes by.
@@ -25,6 +39,7 @@ fn prepare<V: Device>(
     requires unlent { (V.directory dir.old).now.ceiling ≤ file }
     requires in_range { file < 2 ^ 62 }
     ensures bytes { V.honest ≡ true → IfOk result (λ reader. V.reader_bytes reader ≡ spelling stone.now) }
+    ensures readable { OnOk result (stone_at (spelling stone.now) ≡ Ok stone.now) }
     ensures spare { OnOk result (2 ≤ V.spare dir.new) }
     ensures lent { V.honest ≡ true → V.directory dir.new ≡ lent (V.directory dir.old) file }
     ensures ceiling { (V.directory dir.new).now.ceiling ≡ file + 1 }
@@ -90,6 +105,7 @@ impl<V: Device> Anchor<V> {
         ensures fault { IsErrOf result CommitError.Fault → (self.new.may ≡ self.old.may) ⊎ (self.new.may ≡ self.old.may ++ Some stone ∷ []) }
         ensures no_memory { IsErrOf result CommitError.NoMemory → self.new.may ≡ self.old.may }
         ensures only_lent { V.honest ≡ true → IsErrOf result CommitError.NoMemory → self.new.directory ≡ lent self.old.directory file }
+        ensures readable { V.honest ≡ true → (self.new.directory ≡ lent self.old.directory file) ⊎ (stone_at (spelling stone) ≡ Ok stone) }
         ensures never_spent { IsErrOf result CommitError.Spent → ⊥ }
         ensures ceiling { self.new.directory.now.ceiling ≡ file + 1 }
         ensures lends { self.new.directory.lends ≡ self.old.directory.lends + 1 }

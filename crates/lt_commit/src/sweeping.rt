@@ -60,11 +60,7 @@ fn not_spared(
 }
 
 /// Removes these files, one after the other.
-fn remove_all<V: Device>(
-    dev: &mut V,
-    dir: &mut V::Dir,
-    files: &[u64],
-) -> Result<(), DeviceError>
+fn remove_all<V: Device>(dev: &mut V, dir: &mut V::Dir, files: &[u64]) -> Result<(), DeviceError>
     ensures any_moment { V.honest ≡ true → Steps (Sweeps (Contains files.now)) (V.directory dir.old) (V.directory dir.new) }
     ensures gone { V.honest ≡ true → OnOk result ((file : ℕ) → Contains files.now file → file_at (V.directory dir.new).seen.files file ≡ None) }
     ensures kept { V.honest ≡ true → SeesKept (Contains files.now) (V.directory dir.old).seen (V.directory dir.new).seen }

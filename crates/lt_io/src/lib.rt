@@ -22,7 +22,7 @@ pub use device_error::{DeviceError, Failed};
 pub use enters::Enters;
 pub use memory::{MemSink, MemSource};
 pub use reading::{INPUT_LIMIT, ReadAllError, read_all};
-pub use replacing::{replace_descriptor, write_file};
+pub use replacing::replace_descriptor;
 pub use sink::Sink;
 pub use source::Source;
 pub use std_io::{ReaderSource, WriterSink};

@@ -5,12 +5,7 @@ ghost use Rattle.lt_io.specs.Replacing.{IsOldOrWhole, IsWhole, replacing};
 
 use crate::{Device, DeviceError};
 
-/// Writes the bytes to a file of their own. No moment goes by.
-pub fn write_file<V: Device>(
-    dev: &mut V,
-    lent: V::Lent,
-    bytes: &[u8],
-) -> Result<V::Reader, DeviceError>
+fn write_file<V: Device>(dev: &mut V, lent: V::Lent, bytes: &[u8]) -> Result<V::Reader, DeviceError>
     ensures number { IfOk result (λ reader. V.reader_number reader ≡ V.lent_number lent) }
     ensures bytes { V.honest ≡ true → IfOk result (λ reader. V.reader_bytes reader ≡ bytes.now) }
     ensures cause { Counts (V.faults dev.old) (V.faults dev.new) (IsErrOf result DeviceError.Failed) }
