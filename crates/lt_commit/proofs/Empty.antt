@@ -1,6 +1,6 @@
 -- Making an empty table, one moment after another.
-use Rattle.std.proofs.Common.{◌≡◌, ◌⊎◌, ◌≤◌, ◌+◌, ℕ, List, [], ◌∷◌, Option, Some, None, Ok, Contains, refl, sym, ◌∙◌, ap, subst, inl, inr, ⊎_elim, arith}
-use Rattle.lt_io.specs.Directory.{State, Image, Directory, Fits, PossibleAt, moment, raised, lent, settled}
+use Rattle.std.proofs.Common.{◌≡◌, ◌⊎◌, ◌≤◌, ◌+◌, ℕ, List, [], ◌∷◌, Option, Some, None, Ok, Contains, refl, sym, ◌∙◌, subst, inl, inr, ⊎_elim, arith}
+use Rattle.lt_io.specs.Directory.{State, Directory, Fits, moment, raised, lent}
 use Rattle.lt_io.specs.Steps.{Steps, IsPreorder}
 use Rattle.lt_io.proofs.Moments.{fits_now, Fits-settled}
 use Rattle.lt_io.proofs.Chains.{Steps-none, Steps-lent, Steps-join, Steps-weaken, FromOn-now, FromOn-steps, possible_each}

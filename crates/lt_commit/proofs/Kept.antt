@@ -1,13 +1,13 @@
 -- What an anchor keeps over its calls.
-use Rattle.std.proofs.Common.{◌≡◌, ◌≤◌, ◌+◌, ℕ, Bool, true, List, [], ◌∷◌, ◌++◌, map, Option, Some, None, Result, Ok, Err, Contains, refl, sym, ◌∙◌, ap, subst, ⊎_elim, arith}
-use Rattle.lt_io.specs.Directory.{State, Image, Directory, Fits, PossibleAt, moment, raised, lent, pointed, settled}
+use Rattle.std.proofs.Common.{◌≡◌, ◌≤◌, ◌+◌, ℕ, Bool, true, List, [], ◌∷◌, ◌++◌, map, Option, Some, None, Ok, Contains, refl, sym, ◌∙◌, ap, subst, ⊎_elim, arith}
+use Rattle.lt_io.specs.Directory.{State, Directory, Fits, moment, lent, pointed}
 use Rattle.lt_io.specs.Steps.{Steps, IsPreorder}
 use Rattle.lt_io.proofs.Moments.{Fits-raised, get_seam}
 use Rattle.lt_io.proofs.Chains.{Steps-lent, Steps-join, FromOn-now, FromOn-steps}
 use Rattle.lt_desc.specs.Shape.{StoneShape}
 use Rattle.lt_desc.specs.Reading.{stone_at}
 use Rattle.lt_desc.specs.Spelling.{spelling}
-use Rattle.lt_commit.specs.Anchored.{Anchored, IsAnchored, spelled, newest}
+use Rattle.lt_commit.specs.Anchored.{IsAnchored, spelled, newest}
 use Rattle.lt_commit.specs.Moments.{Replaces, Sweeps}
 use Rattle.std.proofs.lemmas.List.Elements.{Contains-push_cases}
 use Rattle.lt_commit.proofs.Orders.{replacing, replaces_raised, sweeping, only_one}

@@ -1,7 +1,7 @@
-mod Empty
+pub mod Empty
 mod Kept
-mod Orders
-mod Pictures
+pub mod Orders
+pub mod Pictures
 mod Removal
 mod Spared
 mod Swap

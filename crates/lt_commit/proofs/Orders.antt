@@ -1,7 +1,7 @@
 -- The relations of one moment to the next: each stands over several moments, and the steps of which it is made.
-use Rattle.std.proofs.Common.{◌≡◌, ◌⊎◌, ◌≤◌, ◌<◌, ◌+◌, ℕ, List, [], ◌∷◌, ◌++◌, Option, Some, None, Contains, refl, sym, ◌∙◌, ap, subst, inl, inr, ⊎_elim, arith}
-use Rattle.std.proofs.lemmas.List.Elements.{Contains-append_left, Contains-push, Contains-push_cases}
-use Rattle.lt_io.specs.Directory.{State, file_at, loosened, pointed, settled, raised}
+use Rattle.std.proofs.Common.{◌≡◌, ◌⊎◌, ◌≤◌, ◌+◌, ℕ, List, [], ◌∷◌, Option, Some, Contains, refl, sym, ◌∙◌, subst, inl, inr, ⊎_elim, arith}
+use Rattle.std.proofs.lemmas.List.Elements.{Contains-push, Contains-push_cases}
+use Rattle.lt_io.specs.Directory.{State, loosened, pointed, settled, raised}
 use Rattle.lt_io.specs.Steps.{IsPreorder}
 use Rattle.lt_io.proofs.Moments.{loosened_other, loosened_stood}
 use Rattle.lt_commit.specs.Moments.{Narrows, Replaces, Sweeps}

@@ -1,7 +1,7 @@
 -- The calls of a sweep, one after the other.
-use Rattle.std.proofs.Common.{◌≡◌, ◌≢◌, ◌⊎◌, ◌≤◌, ◌<◌, ◌+◌, ℕ, List, [], ◌∷◌, ◌++◌, length, take, get_or, Option, Some, None, Contains, Bool, true, false, nat_eq, Result, Ok, Err, IsErrOf, refl, sym, ◌∙◌, ap, subst, inl, inr, ⊎_elim, arith, add-one, eqb-true, eq-eqb}
+use Rattle.std.proofs.Common.{◌≡◌, ◌<◌, ◌+◌, ℕ, List, length, take, get_or, None, Contains, Bool, true, false, nat_eq, Result, Ok, Err, IsErrOf, refl, sym, ◌∙◌, subst, ⊎_elim, add-one, eqb-true, eq-eqb}
 use Rattle.std.proofs.Math.Seq.{take-suc}
-use Rattle.std.proofs.lemmas.List.Elements.{Contains-get_or, Contains-push_cases}
+use Rattle.std.proofs.lemmas.List.Elements.{Contains-push_cases}
 use Rattle.lt_io.specs.Directory.{Directory, Image, Fits, file_at}
 use Rattle.lt_io.specs.Device.{RemovesFile, SeesOthers, KeepsLent}
 use Rattle.lt_io.specs.declared.device_error.DeviceError.{DeviceError}

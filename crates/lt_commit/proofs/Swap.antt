@@ -1,6 +1,6 @@
 -- The calls of a descriptor's replacement, told of the directory.
-use Rattle.std.proofs.Common.{◌≡◌, List, Some, ℕ, Result, Ok, Err, refl, sym, ◌∙◌, ap, subst}
-use Rattle.lt_io.specs.Directory.{Directory, Fits, settled, pointed}
+use Rattle.std.proofs.Common.{◌≡◌, List, ℕ, Result, Ok, sym, subst}
+use Rattle.lt_io.specs.Directory.{Directory, Fits}
 use Rattle.lt_io.specs.Device.{PointsAt, Settles}
 use Rattle.lt_io.specs.Steps.{Steps}
 use Rattle.lt_io.proofs.Chains.{Steps-join, Steps-same, Steps-pointed, Steps-settled}

@@ -2,7 +2,6 @@
 use Rattle.std.specs.Prelude.{◌≡◌, ◌⊎◌, ◌≤◌, ℕ, List, [], ◌∷◌, Option, Some, None, Ok, Contains}
 use Rattle.lt_io.specs.Directory.{State, Image, Directory, PossibleAt, moment}
 use Rattle.lt_schema.specs.Shapes.{SchemaShape}
-use Rattle.lt_schema.specs.Versions.{SchemaVersions}
 use Rattle.lt_desc.specs.Shape.{StoneShape}
 use Rattle.lt_desc.specs.Reading.{stone_at}
 use Rattle.lt_desc.specs.Spelling.{spelling}

@@ -1,5 +1,5 @@
 -- What the calls of an anchor make of a directory, one moment after another.
-use Rattle.std.specs.Prelude.{◌≡◌, ◌⊎◌, ◌≤◌, ◌+◌, ℕ, List, [], ◌∷◌, Option, Some, Contains}
+use Rattle.std.specs.Prelude.{◌≡◌, ◌⊎◌, ◌≤◌, ◌+◌, ℕ, List, Option, Some, Contains}
 use Rattle.lt_io.specs.Directory.{State, file_at, pointed, settled, raised}
 
 -- while a directory is opened: the files stand, and each possible descriptor was possible before

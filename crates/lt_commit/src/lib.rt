@@ -10,3 +10,6 @@ mod sweeping;
 
 pub use anchor::Anchor;
 pub use errors::{CommitError, CreateError, FreshError, LoadError};
+
+#[cfg(test)]
+mod tests;

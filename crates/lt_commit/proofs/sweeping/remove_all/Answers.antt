@@ -1,4 +1,4 @@
-use Rattle.std.proofs.Common.{arith, refl, length, ◌<◌, ◌≤◌, ◌≡◌, ℕ, Contains, take, subst, sym}
+use Rattle.std.proofs.Common.{arith, refl, length, ◌<◌, ◌≤◌, Contains, subst, sym}
 use Rattle.std.proofs.lemmas.List.{take_all}
 use Rattle.std.proofs.lemmas.List.Elements.{Contains-get_or}
 use Rattle.lt_commit.proofs.Removal.{removed_none, removed_one, sees_none, sees_one, fits_one, gone_one, lent_on}

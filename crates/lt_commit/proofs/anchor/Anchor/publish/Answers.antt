@@ -1,8 +1,6 @@
-use Rattle.std.proofs.Common.{◌≡◌, ◌≤◌, true, List, [], ◌∷◌, ◌++◌, Some, sym, ◌∙◌, ap, subst}
-use Rattle.lt_io.specs.Directory.{Directory, lent}
-use Rattle.lt_io.specs.Steps.{Steps}
+use Rattle.std.proofs.Common.{◌≡◌, ◌≤◌, [], ◌∷◌, ◌++◌, sym, ◌∙◌, ap, subst}
+use Rattle.lt_io.specs.Directory.{lent}
 use Rattle.lt_desc.specs.Spelling.{spelling}
-use Rattle.lt_commit.specs.Moments.{Replaces}
 use Rattle.lt_commit.proofs.Kept.{anchored_lent, anchored_pointed, steps_lent, steps_on}
 use Rattle.lt_commit.proofs.Pictures.{old_or_new}
 use Rattle.lt_commit.proofs.anchor.Anchor.publish.Goals as goal

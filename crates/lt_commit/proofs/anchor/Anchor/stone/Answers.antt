@@ -1,4 +1,4 @@
-use Rattle.std.proofs.Common.{◌≡◌, None, sym, ◌∙◌, ap}
+use Rattle.std.proofs.Common.{sym, ◌∙◌, ap}
 use Rattle.lt_commit.specs.Anchored.{newest}
 use Rattle.lt_commit.proofs.Kept.{newest-push}
 use Rattle.lt_commit.proofs.anchor.Anchor.stone.Goals as goal

@@ -1,9 +1,5 @@
-use Rattle.std.proofs.Common.{◌≡◌, true, not, length, List, [], ◌∷◌, ◌++◌, ℕ, Contains, ◌↔◌, sym, ◌∙◌, ap, subst}
-use Rattle.lt_io.specs.Directory.{Directory}
-use Rattle.lt_io.specs.Steps.{Steps}
-use Rattle.lt_commit.specs.Anchored.{Anchored, Goes, CountsGone}
-use Rattle.lt_commit.specs.Moments.{Sweeps}
-use Rattle.lt_commit.specs.Swept.{SeesKept, IsKept}
+use Rattle.std.proofs.Common.{length, [], ◌∷◌, ◌++◌, ℕ, Contains, ◌↔◌, sym, ◌∙◌, ap, subst}
+use Rattle.lt_commit.specs.Anchored.{Goes}
 use Rattle.lt_commit.proofs.Removal.{removed_none, swept, sees_swept}
 use Rattle.lt_commit.proofs.Kept.{anchored_swept}
 use Rattle.lt_commit.proofs.Pictures.{kept}
