@@ -95,3 +95,13 @@ kept_first p x xs ys given e g = ap (filter p) e ∙ by (p x) refl ∙ ap (λ o.
 pub if_ok : {T E : Type 0} (P Q : T → Type 0) (r : Result T E) → ((x : T) → P x → Q x) → IfOk r P → IfOk r Q
 if_ok P Q (Ok x) f h = f x h
 if_ok P Q (Err e) f h = tt
+
+-- the blocks up to a place, and one more
+pub joined_more : (blocks : List (List Record)) (i : ℕ) (recs : List Record) → slice_get blocks i ≡ Some recs → joined (take (i + 1) blocks) ≡ joined (take i blocks) ++ recs
+joined_more blocks i recs e =
+    ap joined (take_more blocks i recs (slice_get_within blocks i recs e)) ∙ joined-append (take i blocks) (get_or blocks i recs ∷ [])
+    ∙ ap (λ xs. joined (take i blocks) ++ xs) (append-nil (get_or blocks i recs) ∙ get_or_from_slice_get blocks i recs recs e)
+
+pub no_first : (xs : List Record) → slice_get xs 0 ≡ None → xs ≡ []
+no_first [] e = refl
+no_first (x ∷ xs) e = absurd cc

@@ -12,3 +12,6 @@ mod stored;
 
 pub use cursor::Cursor;
 pub use error::CursorError;
+
+#[cfg(test)]
+mod tests;
