@@ -28,3 +28,14 @@ any_joined P (b ∷ blocks) zero recs q any =
     let same : b ≡ recs = cc in
     any_left P b (joined blocks) (subst (Any P) (sym same) any)
 any_joined P (b ∷ blocks) (suc i) recs q any = any_right P b (joined blocks) (any_joined P blocks i recs q any)
+
+-- what holds of the records of all blocks holds in each
+pub all_part : (P : Record → Type 0) (blocks : List (List Record)) (i : ℕ) (recs : List Record) → slice_get blocks i ≡ Some recs → All P (joined blocks) → All P recs
+all_part P [] i recs q all = absurd cc
+all_part P (b ∷ blocks) zero recs q all =
+    let same : b ≡ recs = cc in
+    let size = length-append b (joined blocks) in
+    subst (All P) same (λ k d w. subst P (get_or-append b (joined blocks) d k w) (all k d (omega (arith, size, w))))
+all_part P (b ∷ blocks) (suc i) recs q all =
+    let size = length-append b (joined blocks) in
+    all_part P blocks i recs q (λ k d w. subst P (get_or-append-add b (joined blocks) k d) (all (length b + k) d (omega (arith, size, w))))

@@ -160,7 +160,7 @@ counted t key from to h some filter =
 
 -- ---- all blocks
 
-block_of : (t : Loaded) (i : ℕ) (recs : List Record) → IsTold t → slice_get (blocks_in t) i ≡ Some recs → IsBlock recs
+pub block_of : (t : Loaded) (i : ℕ) (recs : List Record) → IsTold t → slice_get (blocks_in t) i ≡ Some recs → IsBlock recs
 block_of t i recs told q = subst IsBlock (get_or_from_slice_get (blocks_in t) i recs recs q) (All-from_recursion IsBlock (blocks_in t) told.tablet.each i recs (slice_get_within (blocks_in t) i recs q))
 
 -- no record has a key that is too short

@@ -45,7 +45,7 @@ covered_more : (mid found : Option Record) (r : Record) → IfSome mid (IsCovere
 covered_more None found r h k = absurd k
 covered_more (Some m) found r h k = covered_trans found r m k h
 
-some_covered : (best mid found : Option Record) → IfSome best (IsCovered mid) → IfSome mid (IsCovered found) → IfSome best (IsCovered found)
+pub some_covered : (best mid found : Option Record) → IfSome best (IsCovered mid) → IfSome mid (IsCovered found) → IfSome best (IsCovered found)
 some_covered None mid found h k = tt
 some_covered (Some b) mid found h k = covered_more mid found b k h
 
@@ -89,11 +89,11 @@ or_begins : (less begins : Bool) → less ≡ false → (less || (true && begins
 or_begins false begins e h = h
 or_begins true begins e h = absurd cc
 
-or_true : (less begins : Bool) → begins ≡ true → (less || (true && begins)) ≡ true
+pub or_true : (less begins : Bool) → begins ≡ true → (less || (true && begins)) ≡ true
 or_true false begins e = e
 or_true true begins e = refl
 
-begins_not_less : (key prefix : List ℕ) → begins_with key prefix ≡ true → is_less key prefix ≡ false
+pub begins_not_less : (key prefix : List ℕ) → begins_with key prefix ≡ true → is_less key prefix ≡ false
 begins_not_less [] [] h = refl
 begins_not_less (x ∷ xs) [] h = refl
 begins_not_less [] (y ∷ ys) h = absurd cc

@@ -6,3 +6,6 @@ mod Keys
 mod Tablets
 mod Picking
 mod Later
+mod Range
+mod OneTablet
+mod ManyTablets

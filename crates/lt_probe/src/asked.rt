@@ -1,4 +1,6 @@
-ghost use Rattle.std.specs.Prelude.{◌≡◌, not, IfOk};
+ghost use Rattle.std.specs.Prelude.{◌≡◌, ℕ, false, not, List, IfOk, Contains};
+ghost use Rattle.lt_bloom.specs.Filter.{filter_bytes};
+ghost use Rattle.lt_bloom.specs.Hash.{hash_of};
 ghost use Rattle.lt_probe.specs.Asked.{admits_question, cut_behind, hash_if, prefix_box};
 ghost use Rattle.lt_probe.specs.Sought.{cut_before};
 
@@ -70,7 +72,9 @@ impl Asked {
 
     /// Whether the prefix is a whole stem and the filter denies it.
     pub fn is_denied_by(&self, filter: &Filter) -> bool
-        ensures { result ≡ not (admits_question self.now filter.now) }
+        ensures exact { result ≡ not (admits_question self.now filter.now) }
+        // No filter over a prefix that is a whole stem denies it.
+        ensures member { (hashes : List ℕ) → filter.now ≡ filter_bytes hashes → Contains hashes (hash_of self.now.prefix) → result ≡ false }
     {
         match self.hash {
             Some(hash) => !filter.may(hash),

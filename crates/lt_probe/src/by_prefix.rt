@@ -104,7 +104,10 @@ fn latest_of<V: Device, L: Ledger>(
     ensures cause { Counts (V.faults dev.old) (V.faults dev.new) (IsErrOf result ReadError.Fault) }
 {
     let count = tablet.count();
-    if is_earlier(tablet, &best) || asked.is_denied_by(tablet.filter()) {
+    if is_earlier(tablet, &best) {
+        return Ok(best);
+    }
+    if asked.is_denied_by(tablet.filter()) {
         return Ok(best);
     }
     let (from, to) = tablet.index_range(asked.area());
