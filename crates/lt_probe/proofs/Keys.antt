@@ -1,10 +1,10 @@
 -- Where a key can be.
-use Rattle.std.proofs.Common.{◌≡◌, ◌≢◌, ◌⊎◌, ℕ, zero, suc, ◌+◌, ◌-◌, ◌<◌, ◌≤◌, ◌||◌, ◌&&◌, Bool, true, false, not, cond, leb, List, [], ◌∷◌, ◌++◌, length, get_or, drop, refl, sym, ap, subst, ◌∙◌, arith, inl, inr}
-use Rattle.std.specs.Prelude.{slice_get, Option, Some, None, IfSome, count_by, IsTrue, ◌↔◌, Contains}
-use Rattle.std.specs.List.{All, Any, AllByRecursion, list_any}
-use Rattle.std.specs.Int.{w64, to_be_bytes, from_be_bytes}
+use Rattle.std.proofs.Common.{◌≡◌, ◌≢◌, ◌⊎◌, ℕ, zero, suc, ◌+◌, ◌<◌, ◌≤◌, ◌||◌, ◌&&◌, Bool, true, false, not, leb, List, [], ◌∷◌, ◌++◌, length, get_or, refl, sym, ap, subst, ◌∙◌, arith, inl, inr}
+use Rattle.std.specs.Prelude.{slice_get, Option, Some, None, IfSome, count_by, Contains}
+use Rattle.std.specs.List.{All, AllByRecursion, list_any}
+use Rattle.std.specs.Int.{w64, from_be_bytes}
 use Rattle.std.proofs.lemmas.Nat.{from_be_bytes-to_be_bytes_8}
-use Rattle.std.proofs.lemmas.Bool.{cases_Bool, cases_lt, and_parts, and_from, le-leb}
+use Rattle.std.proofs.lemmas.Bool.{cases_lt, and_parts, and_from, le-leb}
 use Rattle.std.proofs.lemmas.List.Elements.{All-from_recursion}
 use Rattle.std.proofs.lemmas.List.Folds.{list_any_at}
 use Rattle.std.proofs.lemmas.Option.{slice_get-get_or, slice_get_within, get_or_from_slice_get}
@@ -12,7 +12,7 @@ use Rattle.lt_rec.specs.Bytes.{is_less}
 use Rattle.lt_rec.specs.Record.{Record, IsRecord, stem_of, time_of}
 use Rattle.lt_rec.specs.Boxes.{is_below, meets_lo, meets_hi, in_box}
 use Rattle.lt_rec.specs.declared.cut.Cut.{Cut}
-use Rattle.lt_block.specs.Spelling.{IsBlock, Rises}
+use Rattle.lt_block.specs.Spelling.{IsBlock}
 use Rattle.lt_bloom.specs.Filter.{admits, filter_bytes}
 use Rattle.lt_bloom.specs.Hash.{hash_of}
 use Rattle.lt_tablet.specs.Spelling.{Entry, end_of, hashes_from}

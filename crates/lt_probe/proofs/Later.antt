@@ -1,25 +1,24 @@
 -- The latest record of a list, and of one list after another.
-use Rattle.std.proofs.Common.{◌≡◌, ◌⊎◌, ℕ, ◌+◌, ◌<◌, ◌≤◌, ◌||◌, ◌&&◌, Bool, true, false, leb, List, [], ◌∷◌, ◌++◌, length, nat_eq, get_or, refl, sym, ap, subst, ◌∙◌, arith, inl, inr, Ordering, Equal}
+use Rattle.std.proofs.Common.{◌≡◌, ◌⊎◌, ℕ, ◌<◌, ◌≤◌, ◌||◌, ◌&&◌, Bool, true, false, leb, List, [], ◌∷◌, ◌++◌, length, nat_eq, get_or, refl, sym, ap, subst, ◌∙◌, arith, inl, inr, Ordering, Equal}
 use Rattle.std.specs.Prelude.{Option, Some, None, IfSome, Contains, count_by}
 use Rattle.std.specs.List.{All}
 use Rattle.std.specs.Ordering.{is_lt, nat_cmp, ordering_then}
 use Rattle.std.specs.Cmp.{nat_cmp_is}
 use Rattle.std.specs.Cmp.Lexicographic.{slice_cmp}
-use Rattle.std.proofs.lemmas.Bool.{cases_Bool, cases_lt, and_parts, and_from, leb-true, le-leb, eqb-true}
+use Rattle.std.proofs.lemmas.Bool.{cases_lt, and_parts, and_from, leb-true, le-leb, eqb-true}
 use Rattle.std.proofs.lemmas.List.{get_or_default}
 use Rattle.std.proofs.lemmas.List.Elements.{All-append, Contains-append_left, Contains-append_right}
 use Rattle.lt_rec.specs.Bytes.{is_less, begins_with}
 use Rattle.lt_rec.specs.Boxes.{is_below}
 use Rattle.lt_rec.specs.Record.{Record}
-use Rattle.lt_rec.specs.declared.cut.Cut.{Cut}
 use Rattle.lt_block.specs.Spelling.{IsBlock}
-use Rattle.lt_block.specs.Below.{nobody, below_at}
+use Rattle.lt_block.specs.Below.{nobody}
 use Rattle.lt_probe.specs.Sought.{cut_before}
 use Rattle.lt_probe.specs.Asked.{cut_behind}
 use Rattle.lt_probe.specs.Latest.{IsCovered, IsLatest, IsUpTo, is_asked}
 use Rattle.lt_probe.specs.Picked.{AllEarlier, IsPicked}
 use Rattle.lt_probe.proofs.Less.{less_not_back, not_less_itself, not_less_trans}
-use Rattle.lt_probe.proofs.Places.{first_below, rest_not_below, or_none, before_is, rises_pairs}
+use Rattle.lt_probe.proofs.Places.{first_below, rest_not_below, before_is, rises_pairs}
 
 pub up_to_itself : (a : Record) → IsUpTo a a
 up_to_itself a = inr (refl, not_less_itself a.key)
@@ -143,12 +142,15 @@ module _ (recs : List Record) (prefix : List ℕ) (since from to : ℕ) (block :
         let h = asked_within k d w asked in
         elim (picked.latest k d h.0 h.1) [
           | inl less ↦ inl (omega (arith, less, ap (λ (r : Record). r.ts) (at_place d)))
-          | inr tie ↦ inr (tie.0 ∙ ap (λ (r : Record). r.ts) (at_place d), elim (cases_lt k place) [
-            | inl before ↦ less_not_back (get_or recs k d).key rec.key (ap (λ (r : Record). is_less (get_or recs k d).key r.key) (sym (at_place d)) ∙ rises_pairs [] recs block.rising k place d before within)
-            | inr same ↦
-                let s : k ≡ place = omega (arith, tie.1) in
-                ap (λ (r : Record). is_less rec.key r.key) (ap (λ j. get_or recs j d) s ∙ at_place d) ∙ not_less_itself rec.key
-          ])
+          | inr tie ↦ inr (
+            tie.0 ∙ ap (λ (r : Record). r.ts) (at_place d),
+            elim (cases_lt k place) [
+              | inl before ↦ less_not_back (get_or recs k d).key rec.key (ap (λ (r : Record). is_less (get_or recs k d).key r.key) (sym (at_place d)) ∙ rises_pairs [] recs block.rising k place d before within)
+              | inr same ↦
+                  let s : k ≡ place = omega (arith, tie.1) in
+                  ap (λ (r : Record). is_less rec.key r.key) (ap (λ j. get_or recs j d) s ∙ at_place d) ∙ not_less_itself rec.key
+            ],
+          )
         ]
 
     its_asked : is_asked prefix since rec ≡ true

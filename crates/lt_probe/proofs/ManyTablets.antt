@@ -1,7 +1,7 @@
 -- The latest record of tablets, one after the other.
-use Rattle.std.proofs.Common.{◌≡◌, ℕ, ◌+◌, ◌<◌, ◌≤◌, ◌&&◌, Bool, true, false, not, cond, List, [], ◌∷◌, ◌++◌, length, take, map, get_or, refl, sym, ap, subst, ◌∙◌, arith, inl, inr}
-use Rattle.std.specs.Prelude.{Option, Some, None, IfSome, count_by, slice_get, nat_lt}
-use Rattle.std.specs.List.{All, sum_by}
+use Rattle.std.proofs.Common.{◌≡◌, ℕ, ◌+◌, ◌<◌, ◌≤◌, ◌&&◌, Bool, true, false, not, cond, List, [], ◌∷◌, ◌++◌, length, take, map, get_or, refl, sym, ap, ◌∙◌, arith, inl, inr}
+use Rattle.std.specs.Prelude.{Option, Some, None, IfSome, count_by, slice_get}
+use Rattle.std.specs.List.{All, Any, sum_by}
 use Rattle.std.specs.Option.{option_map}
 use Rattle.std.proofs.lemmas.Bool.{ltb-true, lt-ltb}
 use Rattle.std.proofs.lemmas.List.{take_more, map_push}
@@ -12,8 +12,8 @@ use Rattle.lt_rec.specs.Records.{joined}
 use Rattle.lt_tablet.specs.Loaded.{Loaded, records_in, times_meet, may_have}
 use Rattle.lt_probe.specs.Asked.{Question, admits_question, prefix_box}
 use Rattle.lt_probe.specs.Counting.{blocks_asked, is_behind}
-use Rattle.lt_probe.specs.Latest.{IsCovered, IsUpTo, records_of}
-use Rattle.lt_probe.proofs.Blocks.{all_part}
+use Rattle.lt_probe.specs.Latest.{IsCovered, records_of}
+use Rattle.lt_probe.proofs.Blocks.{all_part, any_joined}
 use Rattle.lt_probe.proofs.Range.{joined_push}
 
 module _ (ts : List Loaded) (i : ℕ) (t : Loaded) (within : i < length ts) (here : get_or ts i t ≡ t) where
@@ -28,6 +28,9 @@ module _ (ts : List Loaded) (i : ℕ) (t : Loaded) (within : i < length ts) (her
 
   pub all_in : (P : Record → Type 0) → All P (records_of ts) → All P (records_in t)
   all_in P all = all_part P (map records_in ts) i (records_in t) (slice_get-map records_in ts i ∙ ap (option_map records_in) there) all
+
+  pub any_in : (P : Record → Type 0) → Any P (records_in t) → Any P (records_of ts)
+  any_in P any = any_joined P (map records_in ts) i (records_in t) (slice_get-map records_in ts i ∙ ap (option_map records_in) there) any
 
   module _ (f : Loaded → ℕ) (begin before after : ℕ) where
     pub sum_more : before ≤ begin + sum_by f (take i ts) → after ≤ before + f t → after ≤ begin + sum_by f (take (i + 1) ts)

@@ -1,19 +1,17 @@
 -- The latest record of one tablet.
-use Rattle.std.proofs.Common.{◌≡◌, ◌⊎◌, ℕ, zero, suc, ◌+◌, ◌-◌, ◌^◌, ◌<◌, ◌≤◌, ◌||◌, ◌&&◌, Bool, true, false, not, cond, leb, List, [], ◌∷◌, ◌++◌, length, take, drop, get_or, refl, sym, ap, subst, ◌∙◌, arith, inl, inr}
-use Rattle.std.specs.Prelude.{Option, Some, None, Contains, count_by, slice_get, IsTrue, ◌↔◌}
+use Rattle.std.proofs.Common.{◌≡◌, ◌⊎◌, ℕ, zero, suc, ◌+◌, ◌-◌, ◌^◌, ◌<◌, ◌≤◌, ◌||◌, ◌&&◌, Bool, true, false, not, cond, leb, List, [], ◌∷◌, ◌++◌, length, take, drop, get_or, refl, sym, ap, subst, ◌∙◌, arith, inl}
+use Rattle.std.specs.Prelude.{Option, Some, None, Contains, count_by, slice_get}
 use Rattle.std.specs.List.{All, AllByRecursion}
-use Rattle.std.proofs.lemmas.Bool.{cases_Bool, and_parts, and_from, leb-true, le-leb, ltb-true}
+use Rattle.std.proofs.lemmas.Bool.{and_parts, and_from, leb-true, le-leb, ltb-true}
 use Rattle.std.proofs.lemmas.List.Elements.{All-from_recursion}
 use Rattle.std.proofs.lemmas.List.Sums.{sum_by-cons}
-use Rattle.std.proofs.lemmas.Option.{slice_get_within, get_or_from_slice_get}
 use Rattle.lt_rec.specs.Bytes.{is_less, begins_with}
 use Rattle.lt_rec.specs.Boxes.{in_box, meets_lo, meets_hi}
-use Rattle.lt_rec.specs.Record.{Record, IsRecord, stem_of}
+use Rattle.lt_rec.specs.Record.{Record, IsRecord}
 use Rattle.lt_rec.specs.Records.{joined}
-use Rattle.lt_block.specs.Spelling.{IsBlock}
-use Rattle.lt_bloom.specs.Filter.{admits, filter_bytes}
+use Rattle.lt_bloom.specs.Filter.{admits}
 use Rattle.lt_bloom.specs.Hash.{hash_of}
-use Rattle.lt_tablet.specs.Spelling.{Entry, Totals, hashes_from, totals_of}
+use Rattle.lt_tablet.specs.Spelling.{Entry, Totals, hashes_from}
 use Rattle.lt_tablet.specs.Loaded.{Loaded, IsTold, IsIndexRange, blocks_in, records_in, listed_totals, times_meet, may_have}
 use Rattle.lt_tablet.proofs.Sums.{Within, all_within}
 use Rattle.lt_probe.specs.Asked.{Question, admits_question, prefix_box}
@@ -62,8 +60,8 @@ asked_in_box r prefix since law asked =
     let most : leb r.ts (2 ^ 64 - 1) ≡ true = le-leb r.ts (2 ^ 64 - 1) (omega (arith, law.moment)) in
     and_from (meets_lo (prefix_box prefix since).lo r.key && meets_hi (prefix_box prefix since).hi r.key) (leb since r.ts && leb r.ts (2 ^ 64 - 1))
     (and_from (meets_lo (prefix_box prefix since).lo r.key) (meets_hi (prefix_box prefix since).hi r.key)
-        (or_false (is_less r.key prefix) (begins_not_less r.key prefix parts.0))
-        (or_true (is_less r.key prefix) (begins_with r.key prefix) parts.0))
+    (or_false (is_less r.key prefix) (begins_not_less r.key prefix parts.0))
+    (or_true (is_less r.key prefix) (begins_with r.key prefix) parts.0))
     (and_from (leb since r.ts) (leb r.ts (2 ^ 64 - 1)) parts.1 most)
 
 module _ (t : Loaded) (q : Question) (from to : ℕ) (told : IsTold t) (ordered : from ≤ to)

@@ -1,5 +1,5 @@
 -- The latest of records that are looked at one after the other.
-use Rattle.std.proofs.Common.{◌≡◌, ◌⊎◌, ℕ, ◌+◌, ◌<◌, ◌≤◌, Bool, true, false, List, length, get_or, refl, sym, ap, ◌∙◌, arith, inl, inr, subst, Ordering, Equal}
+use Rattle.std.proofs.Common.{◌≡◌, ◌⊎◌, ℕ, ◌+◌, ◌<◌, ◌≤◌, Bool, true, false, List, get_or, sym, ap, arith, inl, inr, subst, Equal}
 use Rattle.std.specs.Prelude.{Option, Some, None, IfSome, MatchBool, MatchOption}
 use Rattle.std.specs.Ordering.{nat_cmp, MatchOrdering}
 use Rattle.std.specs.Cmp.{ranks}
@@ -43,12 +43,15 @@ module _ (recs : List Record) (from at since most : ℕ) (x : Record) (begun : f
       ]
 
   pub earlier_passed : (place : Option ℕ) → IsSoFar recs from at since most place → x.ts < most → IsSoFar recs from (at + 1) since most place
-  earlier_passed None h early = (h.0, λ k d low high. elim (cases_lt k at) [
-    | inl before ↦ h.1 k d low before
-    | inr same ↦
-        let s : k ≡ at = omega arith in
-        omega (arith, h.0, ap (λ j. (get_or recs j d).ts) s, ap (λ (r : Record). r.ts) (here d))
-  ])
+  earlier_passed None h early = (
+    h.0,
+    λ k d low high. elim (cases_lt k at) [
+      | inl before ↦ h.1 k d low before
+      | inr same ↦
+          let s : k ≡ at = omega arith in
+          omega (arith, h.0, ap (λ j. (get_or recs j d).ts) s, ap (λ (r : Record). r.ts) (here d))
+    ],
+  )
   earlier_passed (Some place) h early = (
     record {
       above = h.0.above;

@@ -1,5 +1,5 @@
 -- How many blocks a look-up may read.
-use Rattle.std.specs.Prelude.{ℕ, Bool, true, false, not, ◌&&◌, List, Option, Some, None, count_by, nat_lt, if◌then◌else◌}
+use Rattle.std.specs.Prelude.{ℕ, Bool, false, not, ◌&&◌, Option, Some, None, count_by, nat_lt, if◌then◌else◌}
 use Rattle.lt_rec.specs.Record.{Record}
 use Rattle.lt_tablet.specs.Loaded.{Loaded, times_meet, may_have}
 use Rattle.lt_probe.specs.Asked.{Question, admits_question, prefix_box}

@@ -6,7 +6,7 @@ use Rattle.lt_rec.specs.Record.{Record, stem_of, time_of}
 use Rattle.lt_bloom.specs.Hash.{hash_of}
 use Rattle.lt_bloom.specs.Filter.{admits}
 use Rattle.lt_tablet.specs.Spelling.{Entry}
-use Rattle.lt_tablet.specs.Loaded.{Loaded, records_in}
+use Rattle.lt_tablet.specs.Loaded.{Loaded}
 
 -- a record of this number has the key
 abbrev pub HasNumber : List Record → List ℕ → ℕ → Type 0

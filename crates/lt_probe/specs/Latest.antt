@@ -1,5 +1,5 @@
 -- The latest record of a prefix.
-use Rattle.std.specs.Prelude.{◌≡◌, ◌⊎◌, ℕ, ◌<◌, ◌≤◌, Bool, true, false, ◌&&◌, List, map, Option, Some, None, IfSome, Contains, nat_le}
+use Rattle.std.specs.Prelude.{◌≡◌, ◌⊎◌, ℕ, ◌<◌, Bool, true, false, ◌&&◌, List, map, Option, Some, None, IfSome, Contains, nat_le}
 use Rattle.std.specs.List.{All}
 use Rattle.lt_rec.specs.Bytes.{is_less, begins_with}
 use Rattle.lt_rec.specs.Record.{Record, stem_of}

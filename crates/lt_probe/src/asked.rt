@@ -86,11 +86,7 @@ impl Asked {
 fn hash_of_whole(prefix: &[u8], whole: bool) -> Option<u64>
     ensures { result ≡ hash_if prefix.now whole }
 {
-    if whole {
-        Some(stem_hash(prefix))
-    } else {
-        None
-    }
+    if whole { Some(stem_hash(prefix)) } else { None }
 }
 
 /// The cut right behind all keys that begin with these bytes.

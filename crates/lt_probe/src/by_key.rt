@@ -1,11 +1,11 @@
-ghost use Rattle.std.specs.Prelude.{◌≡◌, ◌+◌, ◌≤◌, true, map, count_by, All, IfOk, IfErr, IfSome, IfNone, IsErrOf, if◌then◌else◌};
-ghost use Rattle.std.specs.List.{Any};
+ghost use Rattle.std.specs.Prelude.{◌≡◌, ◌+◌, ◌≤◌, true, map, count_by, IfOk, IfErr, IfSome, IfNone, IsErrOf, if◌then◌else◌};
 ghost use Rattle.std.specs.Arc.{arc_value};
 ghost use Rattle.lt_io.specs.Device.{Counts};
 ghost use Rattle.lt_tablet.specs.Causes.{IsNoBad, IsOfFile};
 ghost use Rattle.lt_tablet.specs.Loaded.{records_in};
 ghost use Rattle.lt_probe.specs.Keys.{HasNumber, NoneHas, may_have_key};
 ghost use Rattle.lt_probe.specs.Causes.{IsOfOne};
+ghost use Rattle.lt_probe.specs.Latest.{records_of};
 ghost use Rattle.lt_probe.specs.Sought.{IsSought};
 
 use crate::block::number_in;
@@ -27,11 +27,11 @@ fn number_of<V: Device, L: Ledger>(
     steps: &mut Steps<L>,
 ) -> Result<Option<u64>, ReadError>
     requires sought { IsSought key.now sought.now }
-    ensures found { V.honest ≡ true → IfOk result (λ found. IfSome found (λ seq. HasNumber (records_in tablet.now) key.now seq)) }
+    ensures found { V.honest ≡ true → IfOk result (λ found. IfSome found (HasNumber (records_in tablet.now) key.now)) }
     ensures none { V.honest ≡ true → IfOk result (λ found. IfNone found (NoneHas (records_in tablet.now) key.now)) }
     ensures ticks { steps.new ≤ steps.old + (if may_have_key key.now tablet.now then 1 else 0) }
-    ensures never_bad { V.honest ≡ true → IfErr result (λ why. IsNoBad why) }
-    ensures names { IfErr result (λ why. IsOfFile tablet.now.listed.file why) }
+    ensures never_bad { V.honest ≡ true → IfErr result IsNoBad }
+    ensures names { IfErr result (IsOfFile tablet.now.listed.file) }
     ensures cause { Counts (V.faults dev.old) (V.faults dev.new) (IsErrOf result ReadError.Fault) }
 {
     let count = tablet.count();
@@ -60,11 +60,11 @@ fn number_among<V: Device, L: Ledger>(
     steps: &mut Steps<L>,
 ) -> Result<Option<u64>, ReadError>
     requires sought { IsSought key.now sought.now }
-    ensures found { V.honest ≡ true → IfOk result (λ found. IfSome found (λ seq. Any (λ t. HasNumber (records_in t) key.now seq) (map arc_value tablets.now))) }
-    ensures none { V.honest ≡ true → IfOk result (λ found. IfNone found (All (λ t. NoneHas (records_in t) key.now) (map arc_value tablets.now))) }
+    ensures found { V.honest ≡ true → IfOk result (λ found. IfSome found (HasNumber (records_of (map arc_value tablets.now)) key.now)) }
+    ensures none { V.honest ≡ true → IfOk result (λ found. IfNone found (NoneHas (records_of (map arc_value tablets.now)) key.now)) }
     ensures ticks { steps.new ≤ steps.old + count_by (may_have_key key.now) (map arc_value tablets.now) }
-    ensures never_bad { V.honest ≡ true → IfErr result (λ why. IsNoBad why) }
-    ensures names { IfErr result (λ why. IsOfOne (map arc_value tablets.now) why) }
+    ensures never_bad { V.honest ≡ true → IfErr result IsNoBad }
+    ensures names { IfErr result (IsOfOne (map arc_value tablets.now)) }
     ensures cause { Counts (V.faults dev.old) (V.faults dev.new) (IsErrOf result ReadError.Fault) }
 {
     for tablet in tablets {
@@ -86,11 +86,11 @@ pub fn present<V: Device, L: Ledger>(
     tablets: &[Arc<Tablet<V>>],
     steps: &mut Steps<L>,
 ) -> Result<Option<u64>, ReadError>
-    ensures found { V.honest ≡ true → IfOk result (λ found. IfSome found (λ seq. Any (λ t. HasNumber (records_in t) key.now seq) (map arc_value tablets.now))) }
-    ensures none { V.honest ≡ true → IfOk result (λ found. IfNone found (All (λ t. NoneHas (records_in t) key.now) (map arc_value tablets.now))) }
+    ensures found { V.honest ≡ true → IfOk result (λ found. IfSome found (HasNumber (records_of (map arc_value tablets.now)) key.now)) }
+    ensures none { V.honest ≡ true → IfOk result (λ found. IfNone found (NoneHas (records_of (map arc_value tablets.now)) key.now)) }
     ensures ticks { steps.new ≤ steps.old + count_by (may_have_key key.now) (map arc_value tablets.now) }
-    ensures never_bad { V.honest ≡ true → IfErr result (λ why. IsNoBad why) }
-    ensures names { IfErr result (λ why. IsOfOne (map arc_value tablets.now) why) }
+    ensures never_bad { V.honest ≡ true → IfErr result IsNoBad }
+    ensures names { IfErr result (IsOfOne (map arc_value tablets.now)) }
     ensures cause { Counts (V.faults dev.old) (V.faults dev.new) (IsErrOf result ReadError.Fault) }
 {
     let sought = Sought::new(alloc, key)?;

@@ -43,8 +43,8 @@ fn latest_of_block<V: Device, L: Ledger>(
     ensures value { V.honest ≡ true → IfOk result (λ found. (block : List Record) → slice_get (blocks_in tablet.now) at ≡ Some block → IsLatest block asked.now.prefix asked.now.since best found) }
     ensures over_best { IfOk result (λ found. IfSome best (IsCovered found)) }
     ensures tick { steps.new ≡ steps.old + 1 }
-    ensures never_bad { V.honest ≡ true → IfErr result (λ why. IsNoBad why) }
-    ensures names { IfErr result (λ why. IsOfFile tablet.now.listed.file why) }
+    ensures never_bad { V.honest ≡ true → IfErr result IsNoBad }
+    ensures names { IfErr result (IsOfFile tablet.now.listed.file) }
     ensures cause { Counts (V.faults dev.old) (V.faults dev.new) (IsErrOf result ReadError.Fault) }
 {
     match tablet.block(alloc, dev, at, steps) {
@@ -72,8 +72,8 @@ fn latest_of_blocks<V: Device, L: Ledger>(
     ensures value { V.honest ≡ true → IfOk result (IsLatest (joined (take (to - from) (drop from (blocks_in tablet.now)))) asked.now.prefix asked.now.since best) }
     ensures over_best { IfOk result (λ found. IfSome best (IsCovered found)) }
     ensures ticks { steps.new ≤ steps.old + (to - from) }
-    ensures never_bad { V.honest ≡ true → IfErr result (λ why. IsNoBad why) }
-    ensures names { IfErr result (λ why. IsOfFile tablet.now.listed.file why) }
+    ensures never_bad { V.honest ≡ true → IfErr result IsNoBad }
+    ensures names { IfErr result (IsOfFile tablet.now.listed.file) }
     ensures cause { Counts (V.faults dev.old) (V.faults dev.new) (IsErrOf result ReadError.Fault) }
 {
     let mut found = best;
@@ -99,8 +99,8 @@ fn latest_of<V: Device, L: Ledger>(
     ensures value { V.honest ≡ true → IfOk result (IsLatest (records_in tablet.now) asked.now.prefix asked.now.since best) }
     ensures over_best { IfOk result (λ found. IfSome best (IsCovered found)) }
     ensures ticks { steps.new ≤ steps.old + blocks_asked asked.now best tablet.now }
-    ensures never_bad { V.honest ≡ true → IfErr result (λ why. IsNoBad why) }
-    ensures names { IfErr result (λ why. IsOfFile tablet.now.listed.file why) }
+    ensures never_bad { V.honest ≡ true → IfErr result IsNoBad }
+    ensures names { IfErr result (IsOfFile tablet.now.listed.file) }
     ensures cause { Counts (V.faults dev.old) (V.faults dev.new) (IsErrOf result ReadError.Fault) }
 {
     let count = tablet.count();
@@ -127,8 +127,8 @@ fn latest_among<V: Device, L: Ledger>(
     requires whole { V.honest ≡ true → asked.now.whole ≡ true → IsWholeIn (records_of (map arc_value tablets.now)) asked.now.prefix }
     ensures value { V.honest ≡ true → IfOk result (IsLatest (records_of (map arc_value tablets.now)) asked.now.prefix asked.now.since best) }
     ensures ticks { steps.new ≤ steps.old + sum_by (blocks_asked asked.now best) (map arc_value tablets.now) }
-    ensures never_bad { V.honest ≡ true → IfErr result (λ why. IsNoBad why) }
-    ensures names { IfErr result (λ why. IsOfOne (map arc_value tablets.now) why) }
+    ensures never_bad { V.honest ≡ true → IfErr result IsNoBad }
+    ensures names { IfErr result (IsOfOne (map arc_value tablets.now)) }
     ensures cause { Counts (V.faults dev.old) (V.faults dev.new) (IsErrOf result ReadError.Fault) }
 {
     let mut found = best;
@@ -158,8 +158,8 @@ pub fn latest<V: Device, L: Ledger>(
     requires best { IfSome best (λ b. is_asked prefix.now since b ≡ true) }
     ensures value { V.honest ≡ true → IfOk result (IsLatest (records_of (map arc_value tablets.now)) prefix.now since best) }
     ensures ticks { steps.new ≤ steps.old + sum_by (blocks_asked (record { prefix = prefix.now; whole = whole; since = since }) best) (map arc_value tablets.now) }
-    ensures never_bad { V.honest ≡ true → IfErr result (λ why. IsNoBad why) }
-    ensures names { IfErr result (λ why. IsOfOne (map arc_value tablets.now) why) }
+    ensures never_bad { V.honest ≡ true → IfErr result IsNoBad }
+    ensures names { IfErr result (IsOfOne (map arc_value tablets.now)) }
     ensures cause { Counts (V.faults dev.old) (V.faults dev.new) (IsErrOf result ReadError.Fault) }
 {
     let asked = Asked::new(alloc, prefix, whole, since)?;

@@ -1,10 +1,10 @@
-use Rattle.std.proofs.Common.{◌≡◌, ℕ, ◌<◌, List, length, ap, subst, sym, ◌∙◌, arith}
-use Rattle.std.specs.Prelude.{count_by, Option, Some}
+use Rattle.std.proofs.Common.{◌<◌, length, ap, subst, sym, ◌∙◌, arith}
+use Rattle.std.specs.Prelude.{count_by, Some}
 use Rattle.lt_rec.specs.Boxes.{is_below}
 use Rattle.lt_rec.specs.Record.{Record}
 use Rattle.lt_rec.specs.declared.cut.Cut.{Cut}
 use Rattle.lt_probe.specs.Latest.{IsLatest}
-use Rattle.lt_probe.specs.Picked.{AllEarlier, IsPicked}
+use Rattle.lt_probe.specs.Picked.{IsPicked}
 use Rattle.lt_probe.proofs.Later.{none_later, latest_it, latest_best}
 use Rattle.lt_probe.proofs.block.latest_in.Goals as goal
 

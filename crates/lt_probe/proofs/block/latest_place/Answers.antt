@@ -1,4 +1,3 @@
-use Rattle.std.proofs.Common.{arith}
 use Rattle.lt_probe.proofs.Picking.{all_picked}
 use Rattle.lt_probe.proofs.block.latest_place.Goals as goal
 

@@ -1,4 +1,4 @@
-use Rattle.std.proofs.Common.{◌≡◌, ◌⊎◌, ℕ, ◌<◌, ◌≤◌, Bool, true, false, List, sym, ap, subst, ◌∙◌, arith}
+use Rattle.std.proofs.Common.{◌≡◌, ℕ, true, false, sym, ap, subst, ◌∙◌, arith}
 use Rattle.std.specs.Prelude.{Contains, Option, Some, None, IfNone, All}
 use Rattle.lt_rec.specs.Boxes.{in_box}
 use Rattle.lt_rec.specs.Record.{Record}
@@ -53,8 +53,8 @@ returns-clause-none g c = λ honest.
     let to = c.index_range-from.result.1 in
     let range = subst (λ (area : RawBox). IsIndexRange t area from to) area c.index_range-from.ensures.exact in
     if_none c.number_in.result (λ none. none_in_one t c.args.key.now from to (c.count-count.ensures.told honest)
-        (λ i recs q far. subst (λ (area : RawBox). All (λ (r : Record). in_box area r ≡ false) recs) area (c.index_range-from.ensures.outside honest i recs q far))
-        c.count-count.ensures.entries range c.in_ok-block.block (c.in_ok-block.ensures.value honest) none) c.number_in.ensures.none
+    (λ i recs q far. subst (λ (area : RawBox). All (λ (r : Record). in_box area r ≡ false) recs) area (c.index_range-from.ensures.outside honest i recs q far))
+    c.count-count.ensures.entries range c.in_ok-block.block (c.in_ok-block.ensures.value honest) none) c.number_in.ensures.none
 
 pub returns-clause-ticks : goal.returns-clause-ticks
 returns-clause-ticks g c =

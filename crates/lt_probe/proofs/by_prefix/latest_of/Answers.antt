@@ -1,5 +1,5 @@
-use Rattle.std.proofs.Common.{◌≡◌, ◌⊎◌, ℕ, ◌-◌, ◌<◌, ◌≤◌, Bool, true, false, not, List, take, drop, refl, sym, ap, subst, ◌∙◌, arith}
-use Rattle.std.specs.Prelude.{All, Contains, Option, None, Result, Ok, Err, IfOk}
+use Rattle.std.proofs.Common.{◌≡◌, Bool, true, false, not, refl, sym, ap, subst, ◌∙◌, arith}
+use Rattle.std.specs.Prelude.{All, Option, None, Result, Ok, Err, IfOk}
 use Rattle.lt_rec.specs.Boxes.{in_box}
 use Rattle.lt_rec.specs.Record.{Record}
 use Rattle.lt_rec.specs.declared.raw_box.RawBox.{RawBox}
@@ -48,7 +48,7 @@ returns-clause-value g c = λ honest.
     let range = c.index_range-from.ensures.exact in
     if_ok c.latest_of_blocks.result
     (latest_all t q from to (c.count-count.ensures.told honest) range.ordered
-        (λ i recs r far. subst (λ (area : RawBox). All (λ (x : Record). in_box area x ≡ false) recs) c.area.ensures (c.index_range-from.ensures.outside honest i recs r far)) c.args.best)
+    (λ i recs r far. subst (λ (area : RawBox). All (λ (x : Record). in_box area x ≡ false) recs) c.area.ensures (c.index_range-from.ensures.outside honest i recs r far)) c.args.best)
     (c.latest_of_blocks.ensures.value honest)
 
 pub returns-clause-ticks : goal.returns-clause-ticks
