@@ -9,3 +9,6 @@ mod sought;
 
 pub use by_key::present;
 pub use by_prefix::latest;
+
+#[cfg(test)]
+mod tests;
