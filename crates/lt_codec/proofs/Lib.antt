@@ -3,3 +3,5 @@ pub mod Keys
 pub mod Lengths
 pub mod Steps
 mod Round
+mod Sole
+mod Texts

@@ -7,9 +7,10 @@ use Rattle.lt_schema.specs.declared.value.Value.{Value}
 use Rattle.lt_schema.specs.declared.value.Value.TheVariants.{Int, Text, Blob}
 use Rattle.lt_schema.specs.Versions.{SchemaVersions, is_versions, schema_at}
 use Rattle.std.specs.Str.{is_utf8}
-use Rattle.std.specs.Prelude.{Some}
+use Rattle.std.specs.Prelude.{Some, None}
 use Rattle.lt_schema.specs.Shapes.{SchemaShape}
 use Rattle.lt_schema.specs.Check.{Passes, wrong_kind_from}
+use Rattle.lt_codec.specs.Spelling.{key_bytes, body_bytes}
 use Rattle.lt_codec.specs.declared.fault.BoundError.{BoundError}
 use Rattle.lt_codec.specs.declared.fault.BoundError.TheVariants.{Count, WrongKind, NoMemory}
 
@@ -47,3 +48,12 @@ abbrev pub is_text : Value → Bool
 is_text (Int z) = true
 is_text (Text s) = is_utf8 s
 is_text (Blob s) = true
+
+-- the key and the body are those of this row: it has a value for each column, of its kind
+pub record IsSpelling (schema : SchemaShape) (key body : List ℕ) (row : List Value) : Type 0 where
+  pub arity : length row ≡ length schema.columns
+  pub kinds : wrong_kind_from 0 schema.columns row ≡ None
+  pub words : IsTrue (list_all fits_word row)
+  pub texts : IsTrue (list_all is_text row)
+  pub key_is : key ≡ key_bytes schema row
+  pub body_is : body ≡ body_bytes schema row

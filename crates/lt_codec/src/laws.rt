@@ -1,6 +1,6 @@
 // The laws of keys as bytes. These functions do nothing.
 
-ghost use Rattle.std.specs.Prelude.{◌≡◌, ◌≤◌, ℕ, List, Bool, Ok, length, IsTrue};
+ghost use Rattle.std.specs.Prelude.{◌≡◌, ◌≤◌, ◌<◌, ◌^◌, ℕ, List, Bool, Ok, length, IsTrue, All};
 ghost use Rattle.std.specs.List.{list_all};
 ghost use Rattle.std.specs.Ordering.{nat_cmp};
 ghost use Rattle.std.specs.Cmp.Lexicographic.{slice_cmp};
@@ -13,7 +13,7 @@ ghost use Rattle.lt_schema.specs.Check.{Passes, key_of, wrong_kind_from};
 ghost use Rattle.lt_schema.specs.Versions.{SchemaVersions, schema_at};
 ghost use Rattle.lt_codec.specs.Spelling.{body_bytes, key_bytes};
 ghost use Rattle.lt_codec.specs.Reading.{row_at};
-ghost use Rattle.lt_codec.specs.Ordering.{IsRowOf, fits_word, is_text, lies_below};
+ghost use Rattle.lt_codec.specs.Ordering.{IsRowOf, IsSpelling, fits_word, is_text, lies_below};
 
 /// The bytes of two keys compare as the keys do, whatever the versions of their rows.
 pub fn keys_order_as_their_bytes()
@@ -32,4 +32,10 @@ pub fn cuts_stand_with_their_values()
 pub fn rows_are_read_back()
     ensures back { (schema : SchemaShape) (row : List Value) → IsTrue (is_schema schema) → Passes schema row → IsTrue (list_all fits_word row) → IsTrue (list_all is_text row)
         → row_at schema (key_bytes schema row) (body_bytes schema row) ≡ Ok row }
+{}
+
+/// What is read is spelled in no other way: a key and a body that are read as a row are those of this row.
+pub fn rows_have_one_spelling()
+    ensures only { (schema : SchemaShape) (key body : List ℕ) (row : List Value) → IsTrue (is_schema schema) → All (λ b. b < 2 ^ 8) key → All (λ b. b < 2 ^ 8) body
+        → row_at schema key body ≡ Ok row → IsSpelling schema key body row }
 {}

@@ -8,7 +8,10 @@ mod taking;
 mod writing;
 
 pub use fault::{BoundError, CodecError};
-pub use laws::{cuts_stand_with_their_values, keys_order_as_their_bytes, rows_are_read_back};
+pub use laws::{
+    cuts_stand_with_their_values, keys_order_as_their_bytes, rows_are_read_back,
+    rows_have_one_spelling,
+};
 pub use reading::row_of;
 pub use writing::{cut_of, rec_of};
 

@@ -7,7 +7,7 @@ ghost use Rattle.lt_schema.specs.declared.value.Value.TheVariants.{Int};
 ghost use Rattle.lt_schema.specs.Values.{is_of_kind, body_len_of};
 ghost use Rattle.lt_schema.specs.Check.{Passes, wrong_kind_from, len_under};
 ghost use Rattle.lt_codec.specs.Spelling.{key_number, escaped, in_key, in_body, spelled_by, key_bytes, record_of};
-ghost use Rattle.lt_codec.specs.Ordering.{is_word, fits_word, IsCauseOfBound};
+ghost use Rattle.lt_codec.specs.Ordering.{is_word, fits_word, is_text, IsCauseOfBound};
 
 use crate::fault::BoundError;
 use lt_rec::{Cut, NoMemory, Octets, Rec};
@@ -26,6 +26,7 @@ pub fn rec_of(
     requires numbered { seq < 2 ^ 62 }
     ensures value { IfOk result (λ rec. rec ≡ record_of schema.now ver seq row.now) }
     ensures words { OnOk result (IsTrue (list_all fits_word row.now)) }
+    ensures texts { OnOk result (IsTrue (list_all is_text row.now)) }
 {
     let key_len = schema.key_len() as usize;
     let (key_columns, body_columns) = schema.columns().as_slice().split_at(key_len);
@@ -45,6 +46,7 @@ pub fn cut_of(
     ensures value { IfOk result (λ cut. cut ≡ record { bytes = key_bytes schema.now values.now; after = after }) }
     ensures lawful { OnOk result ((length values.now ≤ schema.now.key_len) × (wrong_kind_from 0 schema.now.columns values.now ≡ None)) }
     ensures words { OnOk result (IsTrue (list_all fits_word values.now)) }
+    ensures texts { OnOk result (IsTrue (list_all is_text values.now)) }
     ensures cause { IfErr result (λ e. IsCauseOfBound schema.now values.now e) }
 {
     let key_len = schema.key_len() as usize;
@@ -65,6 +67,7 @@ fn key_of(alloc: Global, columns: &[Column], values: &[Value]) -> Result<Octets,
     requires { length values.now ≤ length columns.now }
     ensures value { IfOk result (λ key. key ≡ spelled_by in_key columns.now values.now) }
     ensures words { OnOk result (IsTrue (list_all fits_word values.now)) }
+    ensures texts { OnOk result (IsTrue (list_all is_text values.now)) }
 {
     let mut key = Vec::with_capacity(alloc, key_len_in_bytes(values) as usize)?;
     for (at, value) in values.iter().enumerate() {
@@ -73,10 +76,11 @@ fn key_of(alloc: Global, columns: &[Column], values: &[Value]) -> Result<Octets,
     Ok(Octets::from_vec(key))
 }
 
-#[tactic(auto, unfolding(crate::specs::Spelling::in_key))]
+#[tactic(auto, unfolding(crate::specs::Spelling::in_key), using(crate::proofs::Texts::is_utf8_of))]
 fn put_in_key(out: &mut Vec<u8>, kind: Kind, value: &Value) -> Result<(), NoMemory>
     ensures ok { OnOk result (out.new.items ≡ out.old.items ++ in_key kind value.now) }
     ensures word { IsTrue (fits_word value.now) }
+    ensures text { IsTrue (is_text value.now) }
 {
     match value {
         Value::Int(number) => put_number(out, kind, *number),
@@ -132,6 +136,7 @@ fn body_of(alloc: Global, columns: &[Column], values: &[Value]) -> Result<Octets
     requires small { len_under columns.now values.now ≤ 60000 }
     ensures value { IfOk result (λ body. body ≡ spelled_by in_body columns.now values.now) }
     ensures words { OnOk result (IsTrue (list_all fits_word values.now)) }
+    ensures texts { OnOk result (IsTrue (list_all is_text values.now)) }
 {
     let mut body = Vec::with_capacity(alloc, body_len_in_bytes(columns, values) as usize)?;
     for (at, value) in values.iter().enumerate() {
@@ -140,12 +145,13 @@ fn body_of(alloc: Global, columns: &[Column], values: &[Value]) -> Result<Octets
     Ok(Octets::from_vec(body))
 }
 
-#[tactic(auto, unfolding(crate::specs::Spelling::in_body))]
+#[tactic(auto, unfolding(crate::specs::Spelling::in_body), using(crate::proofs::Texts::is_utf8_of))]
 fn put_in_body(out: &mut Vec<u8>, kind: Kind, value: &Value) -> Result<(), NoMemory>
     requires of_kind { IsTrue (is_of_kind kind value.now) }
     requires small { body_len_of kind value.now ≤ 60000 }
     ensures ok { OnOk result (out.new.items ≡ out.old.items ++ in_body kind value.now) }
     ensures word { IsTrue (fits_word value.now) }
+    ensures text { IsTrue (is_text value.now) }
 {
     match value {
         Value::Int(number) if kind == Kind::Int32 => {

@@ -107,6 +107,7 @@ pub trait Device: Send + Drop {
         ensures spare { OnOk result (2 ≤ spare dir.new) }
         ensures no_less { spare dir.old ≤ spare dir.new }
         ensures unchanged { directory dir.new ≡ directory dir.old }
+        ensures possible { honest ≡ true → Fits (directory dir.old).seen (directory dir.old).now }
         ensures later { faults self.old ≤ faults self.new };
 
     /// Makes the reader's bytes a possible descriptor. After Ok they are the one that a read gives. Takes no memory.

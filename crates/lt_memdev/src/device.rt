@@ -175,6 +175,7 @@ impl Device for MemDevice {
         ensures spare { OnOk result (2 ≤ dir.new.spare) }
         ensures no_less { dir.old.spare ≤ dir.new.spare }
         ensures unchanged { dir.new.directory ≡ dir.old.directory }
+        ensures possible { Fits dir.old.directory.seen dir.old.directory.now }
         ensures later { self.old.faults ≤ self.new.faults }
         ensures counts_stay { self.new ≡ self.old }
     {

@@ -104,6 +104,7 @@ impl MemDir {
         ensures ok { OnOk result (2 ≤ self.new.spare) }
         ensures no_less { self.old.spare ≤ self.new.spare }
         ensures unchanged { self.new.directory ≡ self.old.directory }
+        ensures possible { Fits self.old.directory.seen self.old.directory.now }
     {
         self.history.reserve(2)?;
         self.spare = 2;

@@ -21,6 +21,3 @@ pub use fresh::Fresh;
 pub use laws::file_laws;
 pub use tablet::Tablet;
 pub use writer::TabletWriter;
-
-#[cfg(test)]
-mod tests;

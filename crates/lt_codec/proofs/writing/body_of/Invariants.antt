@@ -3,7 +3,7 @@ use Rattle.std.specs.Prelude.{None}
 use Rattle.std.specs.List.{list_all}
 use Rattle.lt_schema.specs.Check.{wrong_kind_from, len_under}
 use Rattle.lt_codec.specs.Spelling.{in_body, spelled_by}
-use Rattle.lt_codec.specs.Ordering.{fits_word}
+use Rattle.lt_codec.specs.Ordering.{fits_word, is_text}
 use Rattle.lt_codec.proofs.writing.body_of.Given as goal
 
 -- the values so far are put, and the others are still of their kinds and small
@@ -13,4 +13,5 @@ invariant-loop-at l = record {
   kinds : wrong_kind_from l.at (drop l.at l.columns) (drop l.at l.values) ≡ None;
   small : len_under (drop l.at l.columns) (drop l.at l.values) ≤ 60000;
   words : list_all fits_word (drop l.at l.values) ≡ list_all fits_word l.values;
+  texts : list_all is_text (drop l.at l.values) ≡ list_all is_text l.values;
 }

@@ -1,0 +1,7 @@
+pub mod Empty
+mod Kept
+pub mod Orders
+pub mod Pictures
+mod Removal
+mod Spared
+mod Swap

@@ -1,0 +1,11 @@
+pub mod Taken
+pub mod Names
+pub mod Turns
+pub mod First
+pub mod Values
+pub mod ColumnText
+pub mod ChangeText
+pub mod TabletText
+pub mod ListingText
+pub mod Whole
+pub mod Growth

@@ -1,0 +1,4 @@
+pub mod Shape
+pub mod Lawful
+pub mod Spelling
+pub mod Reading

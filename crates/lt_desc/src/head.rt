@@ -1,0 +1,58 @@
+//! The first fields.
+ghost use Rattle.std.specs.Prelude.{◌≡◌};
+ghost use Rattle.lt_desc.specs.Reading.{Reads, mark_at, life_at, head_at};
+
+use crate::fault::Fault;
+use crate::fields::{byte_at, bytes_of, holds, place, u64_within};
+use crate::stone::Stone;
+
+pub const MARK: [u8; 8] = *b"LTDESCR1";
+
+/// The fields before the schemas.
+#[derive(Clone, Copy, Debug)]
+pub struct Head {
+    pub upto: u64,
+    pub low: u64,
+    pub ttl: Option<u64>,
+    pub next_file: u64,
+}
+
+#[tactic(auto, unfolding(crate::specs::Reading::mark_at))]
+fn mark_of(total: u64, bytes: &[u8]) -> Result<(&[u8], &[u8]), Fault>
+    ensures exact { Reads (λ x. (x.0.now, x.1.now)) result (mark_at total bytes.now) }
+{
+    let (mark, rest) = bytes_of(MARK.len(), place(total, bytes), bytes)?;
+    holds(MARK.as_slice() == mark, place(total, bytes))?;
+    Ok((mark, rest))
+}
+
+#[tactic(auto, unfolding(crate::specs::Reading::life_at))]
+fn life_of(total: u64, bytes: &[u8]) -> Result<(Option<u64>, &[u8]), Fault>
+    ensures exact { Reads (λ x. (x.0, x.1.now)) result (life_at total bytes.now) }
+{
+    let (flag, rest) = byte_at(total, bytes)?;
+    holds(flag <= 1, place(total, bytes))?;
+    if flag == 0 {
+        return Ok((None, rest));
+    }
+    let (ttl, rest) = u64_within(1, Stone::MOST - 1, total, rest)?;
+    Ok((Some(ttl), rest))
+}
+
+#[tactic(auto, unfolding(crate::specs::Reading::head_at))]
+pub fn head_of(total: u64, bytes: &[u8]) -> Result<(Head, &[u8]), Fault>
+    ensures exact { Reads (λ x. (x.0, x.1.now)) result (head_at total bytes.now) }
+{
+    let (_, rest) = mark_of(total, bytes)?;
+    let (upto, rest) = u64_within(0, Stone::MOST, total, rest)?;
+    let (low, rest) = u64_within(0, Stone::MOST - 1, total, rest)?;
+    let (ttl, rest) = life_of(total, rest)?;
+    let (next_file, rest) = u64_within(0, Stone::MOST, total, rest)?;
+    let head = Head {
+        upto,
+        low,
+        ttl,
+        next_file,
+    };
+    Ok((head, rest))
+}
