@@ -1,0 +1,11 @@
+mod Less
+mod Places
+mod Blocks
+mod Stems
+mod Keys
+mod Tablets
+mod Picking
+mod Later
+mod Range
+mod OneTablet
+mod ManyTablets

@@ -1,0 +1,14 @@
+//! Look-ups over tablet files: the record of a key, and the latest record of a prefix.
+#![tactic(auto)]
+
+mod asked;
+mod block;
+mod by_key;
+mod by_prefix;
+mod sought;
+
+pub use by_key::present;
+pub use by_prefix::latest;
+
+#[cfg(test)]
+mod tests;
