@@ -15,6 +15,7 @@ use lt_rec::Octets;
 use std::alloc::Global;
 
 /// Makes the descriptor that a read gives the only possible one, and gives its bytes, if there is one.
+#[tactic(auto, using(crate::proofs::Swap::unready, crate::proofs::Swap::settling_ready))]
 fn settle_and_read<V: Device>(dev: &mut V, dir: &mut V::Dir) -> Result<Option<Octets>, DeviceError>
     ensures any_moment { V.honest ≡ true → Steps Narrows (V.directory dir.old) (V.directory dir.new) }
     ensures current { V.honest ≡ true → IfOk result (λ found. found ≡ (V.directory dir.old).seen.descriptor) }

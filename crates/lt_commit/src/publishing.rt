@@ -55,6 +55,7 @@ fn prepare<V: Device>(
 }
 
 /// Makes the reader's bytes the only possible descriptor. Takes no memory.
+#[tactic(auto, using(crate::proofs::Swap::pointing, crate::proofs::Swap::pointing_and_settling))]
 fn point_and_settle<V: Device>(
     dev: &mut V,
     dir: &mut V::Dir,
