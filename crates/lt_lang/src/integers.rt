@@ -1,5 +1,6 @@
 //! Integers at the front of a line: an optional -, and 1 to 19 digits.
-ghost use Rattle.std.specs.Prelude.{◌≡◌, ◌^◌, ◌≤◌, neg_ℤ, pos, SomeIff};
+ghost use Rattle.std.specs.Prelude.{◌≡◌, ◌^◌, ◌≤◌, ℕ, Some, IfSome, neg_ℤ, pos, SomeIff};
+ghost use Rattle.lt_lang.specs.Numbers.{IsCount};
 ghost use Rattle.lt_lang.specs.Parsing.{count_of, integer_of, moment_of};
 ghost use Rattle.lt_lang.specs.Reading.{Finds, count_at, digit_at, digits_at, integer_at, moment_at, negated_at, unsigned_at};
 
@@ -116,4 +117,12 @@ pub fn moment_of(word: &[u8]) -> Option<u64>
         Some((moment, [])) => Some(moment),
         _ => None,
     }
+}
+
+/// The number that a word of 1 to 19 decimal digits spells; `None` for each other word. Takes no memory.
+pub fn read_count(word: &[u8]) -> Option<u64>
+    ensures read { IfSome result (IsCount word.now) }
+    ensures only { (n : ℕ) → IsCount word.now n → result ≡ Some n }
+{
+    count_of(word)
 }

@@ -22,6 +22,7 @@ mod upkeep;
 mod values;
 
 pub use command::{Command, Line};
+pub use integers::read_count;
 pub use laws::one_meaning;
 pub use lines::next_line;
 pub use printing::{put_client, put_end, put_reply, reply_text};

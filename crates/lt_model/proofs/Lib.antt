@@ -7,3 +7,4 @@ pub mod Shown
 pub mod Orders
 pub mod Singles
 pub mod Clients
+pub mod Crashes

@@ -16,6 +16,7 @@ use Rattle.lt_model.specs.Verdict.{Verdict, accepted, IsVerdict, HasNewKey}
 use Rattle.lt_model.specs.Step.{IsStep}
 use Rattle.lt_model.specs.Session.{IsMoment, IsSession, Client, Block, Stand}
 use Rattle.lt_model.specs.Growing.{SoFar}
+use Rattle.lt_model.specs.Crash.{Durable, IsCrash}
 use Rattle.lt_model.specs.Shown.{Inserts, IsAdded, ToldToOneLine, IsGivenSince}
 
 -- what was a front stays it
@@ -153,3 +154,7 @@ RepliesShowTheirRows = (shows : ℕ → Bool) (began : ℕ) (clients : List Clie
 abbrev pub EachNumberIsTold : Type 0
 EachNumberIsTold = (shows : ℕ → Bool) (began : ℕ) (clients : List Client) (blocks : List Block) (h : History) (seq : ℕ)
     → IsSession (clock_of shows) began clients blocks h → IsGivenSince h began seq → ToldToOneLine clients blocks seq
+
+-- what a stop leaves of a front is what it leaves of the history, where no row since is numbered below what is durable
+abbrev pub CrashesByFront : Type 0
+CrashesByFront = (k : ℕ) (h : History) (durable : Durable) (found : Opening) → IsLegal h → durable.upto ≤ next (front k h) → IsCrash (front k h) durable found ↔ IsCrash h durable found

@@ -10,3 +10,4 @@ pub mod Session
 pub mod Growing
 pub mod Shown
 pub mod Laws
+pub mod Crash

@@ -1,5 +1,5 @@
 //! Laws of the definitions. None of these functions does anything: their contracts are what they are for.
-ghost use Rattle.lt_model.specs.Laws.{FrontsStay, TheLastFront, EntriesStay, AddedAtTheEnd, ReadingsAfter, OpeningsAreLegal, FrontsAreLegal, LawfulEntriesKeepItLegal, AcceptedRowsKeepItLegal, AnswersByFront, LatestByFront, VerdictsByFront, StepsByFront, SomeVerdict, OneVerdict, OneAnswer, OneLatest, BeginsWithNothing, GrowsByACommand, GrowsByABadLine, IsASessionOfOne, IsASessionOfNobody, RepliesShowTheirRows, EachNumberIsTold};
+ghost use Rattle.lt_model.specs.Laws.{FrontsStay, TheLastFront, EntriesStay, AddedAtTheEnd, ReadingsAfter, OpeningsAreLegal, FrontsAreLegal, LawfulEntriesKeepItLegal, AcceptedRowsKeepItLegal, AnswersByFront, LatestByFront, VerdictsByFront, StepsByFront, SomeVerdict, OneVerdict, OneAnswer, OneLatest, BeginsWithNothing, GrowsByACommand, GrowsByABadLine, IsASessionOfOne, IsASessionOfNobody, RepliesShowTheirRows, EachNumberIsTold, CrashesByFront};
 
 /// A history keeps its fronts, and its entries their places, while it grows.
 pub fn fronts_stay()
@@ -63,4 +63,9 @@ pub fn a_session_of_one()
 pub fn replies_show_the_rows()
     ensures shown { RepliesShowTheirRows }
     ensures told { EachNumberIsTold }
+{}
+
+/// A stop leaves of a history what it leaves of each front from whose next number on nothing is durable.
+pub fn later_rows_are_not_durable()
+    ensures { CrashesByFront }
 {}

@@ -71,6 +71,10 @@ pub record HoldsKey (schema : SchemaShape) (numbered : List Numbered) (row : Lis
 abbrev pub empty_of : SchemaVersions → Opening
 empty_of versions = record { schemas = versions; life = None; low = 0; next = 0; kept = 0; rows = [] }
 
+-- all but the rows and their next number
+abbrev pub rest_of : Opening → Opening
+rest_of held = record held { next = 0; rows = [] }
+
 -- what is held with one row more, under the next number and the newest version
 abbrev pub with_row : Opening → List Value → Opening
 with_row held row = record held { next = held.next + 1; rows = held.rows ++ record { seq = held.next; ver = newest_version held.schemas; row = row } ∷ [] }

@@ -50,10 +50,12 @@ fn number_of(schema: &Schema, rows: &[Stored], row: &[Value]) -> Option<u64>
 }
 
 impl ListTable {
-    ghost use Rattle.std.specs.Prelude.{◌≡◌, ◌<◌, ◌^◌, IfOk, OnErr, OnOk, ℕ};
+    ghost use Rattle.std.specs.Prelude.{◌≡◌, ◌≢◌, ◌<◌, ◌^◌, IfOk, OnErr, OnOk, ℕ, None};
     ghost use Rattle.lt_lang.specs.declared.command.Command.TheVariants.{Insert, Scan, Alter};
     ghost use Rattle.lt_model.specs.Readings.{bound_at};
-    ghost use Rattle.lt_plain.specs.Table.{Answers, empty_of, with_row};
+    ghost use Rattle.lt_schema.specs.Versions.{newest, newest_version, alter_refusal};
+    ghost use Rattle.lt_schema.specs.declared.change.Change.{Change as SchemaChange};
+    ghost use Rattle.lt_plain.specs.Table.{Answers, empty_of, with_row, with_change, rest_of};
 
     /// The table that an opening finds: its schemas, its time to live and its low bound in microseconds, the next row's
     /// number, the number below which all is durable, and its rows. Takes no memory.
@@ -82,6 +84,27 @@ impl ListTable {
         ensures { result ≡ empty_of schemas }
     {
         ListTable::open(schemas, None, 0, 0, 0, Vec::new(alloc))
+    }
+
+    /// The versions of its schema.
+    pub fn schemas(&self) -> &Schemas
+        ensures { result.now ≡ self.now.schemas }
+    {
+        &self.schemas
+    }
+
+    /// The time to live, in microseconds.
+    pub fn life(&self) -> Option<u64>
+        ensures { result ≡ self.now.life }
+    {
+        self.life
+    }
+
+    /// The bound below which rows are gone.
+    pub fn low(&self) -> u64
+        ensures { result ≡ self.now.low }
+    {
+        self.low
     }
 
     /// The next row's number.
@@ -123,6 +146,8 @@ impl ListTable {
     /// Adds the row under the next number, or answers the first cause against it.
     pub fn insert(&mut self, row: Row, now: u64) -> Result<Reply, NoMemory>
         ensures answered { IfOk result (Answers self.old self.new now (Insert row)) }
+        ensures rest { rest_of self.new ≡ rest_of self.old }
+        ensures no_fault { IfOk result (λ reply. reply ≢ Reply.Fault) }
         ensures unchanged { OnErr result (self.new ≡ self.old) }
     {
         if let Err(fault) = self.schemas.newest().check(row.as_slice()) {
@@ -147,6 +172,7 @@ impl ListTable {
     /// Shows the first of the box's unexpired rows in the query's order, up to its limit, under the newest schema.
     pub fn scan(&self, alloc: Global, query: &Query, now: u64) -> Result<Reply, NoMemory>
         ensures answered { IfOk result (Answers self.now self.now now (Scan query.now)) }
+        ensures no_fault { IfOk result (λ reply. reply ≢ Reply.Fault) }
     {
         if !may_limit(query.limit) {
             return Ok(Reply::BadLimit { given: query.limit });
@@ -164,6 +190,17 @@ impl ListTable {
         })
     }
 
+    /// Puts the schemas that a change made in place of those before it. Takes no memory.
+    pub fn replace_schemas(&mut self, schemas: Schemas) -> Reply
+        ensures replaced { self.new ≡ record self.old { schemas = schemas } }
+        ensures version { result ≡ Reply.Version (newest_version schemas) }
+        ensures answered { (change : SchemaChange) (now : ℕ) → alter_refusal (newest self.old.schemas) change ≡ None → self.new ≡ with_change self.old change → Answers self.old self.new now (Alter change) result }
+    {
+        self.schemas = schemas;
+        let version = u64::from(self.schemas.newest_version());
+        Reply::Version { version }
+    }
+
     /// Changes the schema, or answers the first cause against it.
     pub fn alter(&mut self, change: &Change) -> Result<Reply, NoMemory>
         ensures answered { IfOk result (λ reply. (now : ℕ) → Answers self.old self.new now (Alter change.now) reply) }
@@ -172,8 +209,7 @@ impl ListTable {
         if let Err(why) = self.schemas.admits(change) {
             return Ok(Reply::Refused { why });
         }
-        self.schemas = self.schemas.with(change)?;
-        let version = u64::from(self.schemas.newest_version());
-        Ok(Reply::Version { version })
+        let schemas = self.schemas.with(change)?;
+        Ok(self.replace_schemas(schemas))
     }
 }

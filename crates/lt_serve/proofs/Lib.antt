@@ -1,4 +1,11 @@
-mod ThreeWords
+pub mod SeveralWords
+pub mod Making
 pub mod Telling
+pub mod Looked
+pub mod Renewing
+pub mod Told
+pub mod Faults
 pub mod Answering
-pub mod Reading
+pub mod Ending
+pub mod Opening
+pub mod LoadCauses

@@ -1,15 +1,17 @@
 -- A session over the bytes of its input, after some of its lines.
-use Rattle.std.specs.Prelude.{◌≡◌, ◌+◌, ◌≤◌, ℕ, Bool, true, false, List, [], ◌∷◌, ◌++◌, length, Option, Some, None}
+use Rattle.std.specs.Prelude.{◌≡◌, ◌+◌, ◌-◌, ◌^◌, ◌≤◌, min, ℕ, Bool, true, List, [], ◌∷◌, ◌++◌, sum_by, Option, Some, None}
 use Rattle.std.specs.List.{flat_map}
 use Rattle.lt_lang.specs.Texts.{reply_text_of, client_line}
 use Rattle.lt_lang.specs.declared.command.Line.{Line}
 use Rattle.lt_lang.specs.declared.command.Line.TheVariants.{Skip, Bad, Command as CommandLine}
 use Rattle.lt_lang.specs.declared.reply.Reply.{Reply}
+use Rattle.lt_lang.specs.declared.reply.Reply.TheVariants.{BadLine, Fault}
 use Rattle.lt_model.specs.History.{Opening, History}
+use Rattle.lt_model.specs.Legal.{IsLegal}
+use Rattle.lt_model.specs.Session.{Block, IsMoment}
 use Rattle.lt_model.specs.Growing.{SoFar}
-use Rattle.lt_plain.specs.Table.{StandsFor}
-use Rattle.lt_serve.specs.declared.session.Session.{Session}
-use Rattle.lt_serve.specs.Session.{any_moment, lines_of, client_of, MayAnswer, AllMayAnswer, empty_table}
+use Rattle.lt_plain.specs.Table.{StandsFor, Answers}
+use Rattle.lt_serve.specs.Session.{lines_of, is_built, IsText}
 
 -- the lines that belong to anybody
 abbrev pub told : List Line → List Line
@@ -18,40 +20,69 @@ told (Skip ∷ lines) = told lines
 told (Bad client at ∷ lines) = Bad client at ∷ told lines
 told (CommandLine client moment command ∷ lines) = CommandLine client moment command ∷ told lines
 
--- the head of a client's block, once there is a client
-abbrev pub head_of : Option (List ℕ) → List ℕ
-head_of None = []
-head_of (Some name) = client_line name
+-- a line whose command, if it has one, is built
+abbrev pub asks_built : Line → Bool
+asks_built Skip = true
+asks_built (Bad client at) = true
+asks_built (CommandLine client moment command) = is_built command
 
--- what a client's line puts in front of its reply: the head, where it is the first
-abbrev pub head_for : Option (List ℕ) → List ℕ → List ℕ
-head_for None name = client_line name
-head_for (Some known) name = []
+-- the head of a client's block, if there is a client
+abbrev pub block_head : Option (List ℕ) → List ℕ
+block_head None = []
+block_head (Some name) = client_line name
 
--- These lines are answered: the table holds what their history says, and the text so far is their client's block.
-pub record HasAnswered (held : Opening) (client : Option (List ℕ)) (text : List ℕ) (lines : List Line) : Type 0 where
+abbrev pub fault_weight : Reply → ℕ
+fault_weight Fault = 1
+fault_weight _ = 0
+
+-- how many of the replies tell a fault
+abbrev pub faults_in : List Reply → ℕ
+faults_in replies = sum_by fault_weight replies
+
+-- a count that is at most so many above what it was; it stands still at its type's end
+abbrev pub AtMostRose : ℕ → ℕ → ℕ → Type 0
+AtMostRose before faults now = min (before + faults) (2 ^ 64 - 1) ≤ now
+
+-- the reply to a line, and what it makes of the table; none where the line belongs to nobody
+abbrev pub Replies : (ℕ → Type 0) → Opening → Opening → Line → Option Reply → Type 0
+Replies clock old new Skip None = new ≡ old
+Replies clock old new (Bad client at) (Some reply) = (reply ≡ BadLine at) × (new ≡ old)
+Replies clock old new (CommandLine client moment command) (Some reply) = (now : ℕ) × IsMoment clock moment now × Answers old new now command reply
+Replies clock old new line reply = ⊥
+
+-- These lines are answered: the table holds what their history says, which began with the opening; the text so far is their
+-- client's block; and there are at most as many faults among the replies as the count rose since.
+pub record HasAnswered (clock : ℕ → Type 0) (opening held : Opening) (client : Option (List ℕ)) (text : List ℕ) (lines : List Line) (before now : ℕ) : Type 0 where
   pub replies : List Reply
   pub history : History
-  pub opened : history.opening ≡ empty_table
+  pub opened : history.opening ≡ opening
   pub stands : StandsFor held history
-  pub so_far : SoFar any_moment 0 (told lines) replies history
-  pub client_is : client ≡ client_of lines
-  pub built : AllMayAnswer client lines
-  pub written : text ≡ head_of client ++ flat_map reply_text_of replies
+  pub so_far : SoFar clock 0 (told lines) replies history
+  pub written : text ≡ block_head client ++ flat_map reply_text_of replies
+  pub faults : AtMostRose before (faults_in replies) now
 
--- one line more is answered, or it may not be
-abbrev pub GoesOn : Bool → Opening → Option (List ℕ) → List ℕ → List Line → Line → Type 0
-GoesOn true held client text before line = HasAnswered held client text (before ++ line ∷ [])
-GoesOn false held client text before line = MayAnswer (client_of (before ++ line ∷ [])) line → ⊥
-
--- so it is behind all lines that were answered before
-abbrev pub Takes : Bool → Session → Session → Line → Type 0
-Takes on old new line = (before : List Line) → HasAnswered old.table old.client old.text.items before → GoesOn on new.table new.client new.text.items before line
+-- one line more is answered, behind all that were answered before
+abbrev pub Takes : (ℕ → Type 0) → Opening → Opening → List ℕ → List ℕ → ℕ → ℕ → Line → Type 0
+Takes clock old new text longer before now line =
+    (opening : Opening) (client : Option (List ℕ)) (lines : List Line) (began : ℕ)
+    → HasAnswered clock opening old client text lines began before → HasAnswered clock opening new client longer (lines ++ line ∷ []) began now
 
 -- the front of the input that was read is answered so far
-pub record ReadSoFar (input rest : List ℕ) (held : Opening) (client : Option (List ℕ)) (text : List ℕ) (number : ℕ) : Type 0 where
+pub record ReadSoFar (clock : ℕ → Type 0) (opening held : Opening) (client : Option (List ℕ)) (input rest text : List ℕ) (before now : ℕ) : Type 0 where
   pub lines : List Line
   pub cut : lines_of input ≡ lines ++ lines_of rest
-  pub counted : length lines ≡ number
-  pub progress : number + length rest ≤ length input
-  pub answered : HasAnswered held client text lines
+  pub answered : HasAnswered clock opening held client text lines before now
+
+-- the table holds what a legal history says that began with the opening
+pub record HasHistory (opening held : Opening) : Type 0 where
+  pub history : History
+  pub opened : history.opening ≡ opening
+  pub legal : IsLegal history
+  pub stands : StandsFor held history
+
+-- all lines are answered by the text, the table holds what their history says, and there are at most as many faults among
+-- the replies as the count rose
+pub record IsAnswered (clock : ℕ → Type 0) (opening held : Opening) (input text : List ℕ) (before now : ℕ) : Type 0 where
+  pub whole : IsText clock opening input text
+  pub stands : StandsFor held whole.history
+  pub faults : AtMostRose before (sum_by (λ (block : Block). faults_in block.replies) whole.blocks) now

@@ -1,7 +1,12 @@
-pub mod Table
 pub mod Words
 pub mod Status
 pub mod Session
+pub mod Looking
+pub mod Loaded
+pub mod Loading
+pub mod Kept
 pub mod Growing
-pub mod Answered
+pub mod Stops
 pub mod Output
+pub mod Created
+pub mod Untouched

@@ -1,10 +1,9 @@
 -- A session over the bytes of its input: the lines that it spells, and the text that answers them.
-use Rattle.std.specs.Prelude.{◌≡◌, ◌^◌, ◌<◌, ⊤, ℕ, Bool, true, false, IsTrue, List, [], ◌∷◌, ◌++◌, take, map, slice_get, Option, Some, None}
+use Rattle.std.specs.Prelude.{◌≡◌, ⊤, ℕ, Bool, true, false, IsTrue, List, [], ◌∷◌, ◌++◌, take, map, slice_get, Option, Some, None}
 use Rattle.std.specs.List.{flat_map, AllByRecursion}
 use Rattle.lt_lang.specs.Lines.{cut_lines}
 use Rattle.lt_lang.specs.Sentences.{IsSpelled}
 use Rattle.lt_lang.specs.Parsing.{line_at}
-use Rattle.lt_serve.specs.Table.{table_schema}
 use Rattle.lt_lang.specs.Texts.{block_text, end_line}
 use Rattle.lt_lang.specs.declared.command.Command.{Command}
 use Rattle.lt_lang.specs.declared.command.Command.TheVariants.{Insert, Scan, Latest, Flush, Upkeep, Alter, Tablets}
@@ -13,11 +12,6 @@ use Rattle.lt_lang.specs.declared.command.Line.TheVariants.{Skip, Bad, Command a
 use Rattle.lt_model.specs.History.{Opening, History}
 use Rattle.lt_model.specs.Readings.{next, kept}
 use Rattle.lt_model.specs.Session.{Block, IsSession, name_of, clients_of}
-use Rattle.lt_plain.specs.Table.{empty_of}
-
--- what the clock may show: it tells only that moments are below 2^62
-abbrev pub any_moment : ℕ → Type 0
-any_moment now = now < 2 ^ 62
 
 -- what the input's lines say
 abbrev pub lines_of : List ℕ → List Line
@@ -71,16 +65,13 @@ pub record HasOtherLine (input : List ℕ) (number : ℕ) : Type 0 where
 abbrev pub blocks_text : List Block → List ℕ
 blocks_text blocks = flat_map (λ (block : Block). block_text block.name block.replies) blocks
 
--- the table's first version alone, no time to live and no rows
-abbrev pub empty_table : Opening
-empty_table = empty_of (record { first = table_schema; changes = [] })
-
--- The text of a session over the input: its lines are spelled as the grammar says, and there is one history, which began as the empty table, and at whose fronts each
--- line of each client is answered; the text is the clients' blocks, and the next and the settled number at its end.
-pub record IsText (input text : List ℕ) : Type 0 where
+-- The text of a session over the input, of a table that was opened so: its lines are spelled as the grammar says, and there
+-- is one history, which began with that opening, and at whose fronts each line of each client is answered; the text is the
+-- clients' blocks, and the next and the settled number at its end.
+pub record IsText (clock : ℕ → Type 0) (opening : Opening) (input text : List ℕ) : Type 0 where
   pub spelled : AreSpelled (cut_lines input)
   pub blocks : List Block
   pub history : History
-  pub opened : history.opening ≡ empty_table
-  pub session : IsSession any_moment 0 (clients_of (lines_of input)) blocks history
+  pub opened : history.opening ≡ opening
+  pub session : IsSession clock 0 (clients_of (lines_of input)) blocks history
   pub written : text ≡ blocks_text blocks ++ end_line (next history) (kept history)

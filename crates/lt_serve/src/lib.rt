@@ -1,11 +1,14 @@
-//! The top call: from the words and the source's bytes to the sink's bytes and a status.
+//! The top call: from the words, the source's bytes and a directory to the sink's bytes, a status and the directory after.
 #![tactic(auto)]
 
-mod answered;
-mod opening;
+mod creating;
+mod looking;
 mod output;
+mod refusing;
+mod serving;
 mod session;
 mod status;
+mod store;
 mod top;
 mod words;
 

@@ -1,7 +1,16 @@
+ghost use Rattle.std.specs.Prelude.{◌≡◌};
+ghost use Rattle.lt_serve.specs.Status.{load_refusal, create_refusal};
+ghost use Rattle.lt_serve.specs.declared.status.Status.TheVariants.{NoMemory as WantOfMemory};
+
+use lt_commit::{CreateError, LoadError};
+use lt_rec::NoMemory;
+use lt_schema::SchemaError;
+use std::alloc::AllocError;
+
 /// How a run ended.
 #[derive(Clone, Copy, Debug, PartialEq, Eq)]
 pub enum Status {
-    /// The input was read to its end and all was written.
+    /// The input was read to its end and all was written, or a table was made and said so.
     Done,
     /// The words have no listed form.
     Usage,
@@ -11,9 +20,22 @@ pub enum Status {
     SinkFault,
     /// The input passes the limit.
     TooLong,
+    /// There is a table already.
+    Exists,
+    /// There is no table.
+    NoTable,
+    /// The descriptor breaks a rule at this byte.
+    Refused { at: u64 },
+    /// The device failed while a table was made or loaded.
+    DeviceFault,
     /// Memory ran out.
     NoMemory,
-    /// A line of the input is a second client's or asks for what isn't built yet; `line` counts from 0 over all lines.
+    /// The text says no schema, for a cause other than memory.
+    BadSchema { why: SchemaError },
+    /// No file number is left.
+    Spent,
+    /// A line of the input is a second client's or asks for what isn't built yet; `line` counts from 0 over all lines. It is
+    /// 0 where the table has rows in files, which aren't read yet.
     NotYet { line: u64 },
 }
 
@@ -31,8 +53,56 @@ impl Status {
             Status::SourceFault => 3,
             Status::SinkFault => 4,
             Status::TooLong => 5,
+            Status::Exists => 7,
+            Status::NoTable => 8,
+            Status::Refused { at: _ } => 9,
+            Status::DeviceFault => 10,
             Status::NoMemory => 11,
+            Status::BadSchema { why: _ } => 12,
+            Status::Spent => 13,
             Status::NotYet { line: _ } => 14,
         }
+    }
+}
+
+impl From<LoadError> for Status {
+    ghost from_gives = { λ refused status. status ≡ load_refusal refused };
+
+    fn from(refused: LoadError) -> Status {
+        match refused {
+            LoadError::NoTable => Status::NoTable,
+            LoadError::Bad { at } => Status::Refused { at },
+            LoadError::Fault => Status::DeviceFault,
+            LoadError::NoMemory => Status::NoMemory,
+        }
+    }
+}
+
+impl From<CreateError> for Status {
+    ghost from_gives = { λ refused status. status ≡ create_refusal refused };
+
+    fn from(refused: CreateError) -> Status {
+        match refused {
+            CreateError::Exists => Status::Exists,
+            CreateError::Spent => Status::Spent,
+            CreateError::Fault => Status::DeviceFault,
+            CreateError::NoMemory => Status::NoMemory,
+        }
+    }
+}
+
+impl From<NoMemory> for Status {
+    ghost from_gives = { λ _ status. status ≡ WantOfMemory };
+
+    fn from(_refused: NoMemory) -> Status {
+        Status::NoMemory
+    }
+}
+
+impl From<AllocError> for Status {
+    ghost from_gives = { λ _ status. status ≡ WantOfMemory };
+
+    fn from(_refused: AllocError) -> Status {
+        Status::NoMemory
     }
 }

@@ -1,47 +1,81 @@
-ghost use Rattle.std.specs.Prelude.{◌≡◌, ◌↔◌, ◌≤◌, IfSome, map, string_bytes};
+ghost use Rattle.std.specs.Prelude.{◌≡◌, ◌↔◌, ◌≤◌, ◌<◌, ◌∷◌, [], ℕ, List, Option, None, true, IfSome, map, string_bytes, codes, drop, vec_len, length};
 ghost use Rattle.lt_io.specs.Cause.{Rose};
-ghost use Rattle.lt_serve.specs.Words.{IsSession};
+ghost use Rattle.lt_lang.specs.Texts.{line_of};
+ghost use Rattle.lt_serve.specs.Words.{IsSession, IsCreation, HasForm};
+ghost use Rattle.lt_serve.specs.Stops.{Served, Leaves};
 ghost use Rattle.lt_serve.specs.Output.{MayEnd, ReadsFirst, WritesText, WritesRefusal};
+ghost use Rattle.lt_serve.specs.Created.{EndsMaking, WasReady, NoneOrMade, AllMade, MakesOne};
+ghost use Rattle.lt_serve.specs.Untouched.{StandsBefore, first_count};
 
 use crate::Status;
-use crate::output::{answer, refuse};
-use crate::words::is_session;
-use lt_io::{ReadAllError, Sink, Source, read_all};
+use crate::creating::create;
+use crate::refusing::refuse;
+use crate::serving::serve;
+use crate::words::{creation_of, is_session};
+use lt_io::{Clock, Device, Sink, Source};
 use std::alloc::Global;
 
-/// Answers the words: reads the whole source, and then writes.
+/// Does what the words ask for.
 ///
-/// The one form of words is `run DIR --leave`. Sessions without lines are answered by their last line alone.
-pub fn run<S: Source, K: Sink>(
+/// `create DIR SCHEMA [TTL]` makes an empty table of the schema that the JSON text `SCHEMA` says, with a time to live in
+/// microseconds. `run DIR --leave` reads the whole source, and then answers its lines over the table in the directory. `DIR`
+/// is not looked at: `dir` is the directory, and the first of the devices does all there.
+pub fn run<S: Source, K: Sink, V: Device, C: Clock>(
     alloc: Global,
     words: &[String],
     source: &mut S,
     sink: &mut K,
-) -> Status
-    ensures usage { (result ≡ Status.Usage) ↔ (¬ IsSession (map string_bytes words.now)) }
-    ensures usage_reads_nothing { result ≡ Status.Usage → source.new ≡ source.old }
+    dir: V::Dir,
+    devices: &mut Vec<V>,
+    clock: &C,
+) -> (Status, V::Dir)
+    requires { 0 < vec_len devices.old }
+    ensures usage { (result.0 ≡ Status.Usage) ↔ (¬ HasForm (map string_bytes words.now)) }
 
     // A fault of an object comes only where its count rose, and no count falls.
-    ensures source_fault { result ≡ Status.SourceFault → Rose (S.faults source.old) (S.faults source.new) }
-    ensures sink_fault { result ≡ Status.SinkFault → Rose (K.faults sink.old) (K.faults sink.new) }
+    ensures source_fault { result.0 ≡ Status.SourceFault → Rose (S.faults source.old) (S.faults source.new) }
+    ensures sink_fault { result.0 ≡ Status.SinkFault → Rose (K.faults sink.old) (K.faults sink.new) }
+    ensures device_fault { result.0 ≡ Status.DeviceFault → Rose (first_count V.faults devices.old.items) (first_count V.faults devices.new.items) }
     ensures source_count { S.faults source.old ≤ S.faults source.new }
     ensures sink_count { K.faults sink.old ≤ K.faults sink.new }
+    ensures device_count { first_count V.faults devices.old.items ≤ first_count V.faults devices.new.items }
+    ensures as_many { vec_len devices.new ≡ vec_len devices.old }
+    ensures others { drop 1 devices.new.items ≡ drop 1 devices.old.items }
 
-    // Which input may have which status; nothing of a session is written before the input was read to its end.
-    ensures input { IfSome (S.left source.old) (MayEnd result) }
-    ensures read_first { ReadsFirst result (S.left source.new) }
+    // What stands before a table is made or loaded calls no device and leaves the directory; wrong words and those that make a
+    // table read nothing.
+    ensures untouched { StandsBefore result.0 → (result.1 ≡ dir) × (devices.new.items ≡ devices.old.items) }
+    ensures reads_nothing { ¬ IsSession (map string_bytes words.now) → source.new ≡ source.old }
 
-    // What is written: the text of the session, or the one line of the refusal.
-    ensures text { IfSome (S.left source.old) (λ input. WritesText result input (K.held sink.old) (K.held sink.new)) }
-    ensures refusal { WritesRefusal result (K.held sink.old) (K.held sink.new) (K.faults sink.old) (K.faults sink.new) }
+    // A refusal writes its one line, or a front of it where the sink's count rose.
+    ensures refusal { WritesRefusal result.0 (K.held sink.old) (K.held sink.new) (K.faults sink.old) (K.faults sink.new) }
+
+    // `create`: which text ends so, which directory, and what is written.
+    ensures schema { (text : List ℕ) (life : Option ℕ) → IsCreation (map string_bytes words.now) text life → EndsMaking result.0 text }
+    ensures ready { (text : List ℕ) (life : Option ℕ) → IsCreation (map string_bytes words.now) text life → V.honest ≡ true → WasReady result.0 (V.directory dir) }
+    ensures created { (text : List ℕ) (life : Option ℕ) → IsCreation (map string_bytes words.now) text life → WritesText (λ text. text ≡ line_of (codes "created")) result.0 (K.held sink.old) (K.held sink.new) }
+
+    // What a stop may leave of it, where there was no descriptor: none, or the empty table; and once it is made, the table.
+    ensures none_or_made { (text : List ℕ) (life : Option ℕ) → IsCreation (map string_bytes words.now) text life → V.honest ≡ true → (V.directory dir).now.may ≡ None ∷ [] → NoneOrMade text life (V.directory dir) (V.directory result.1) }
+    ensures made { (text : List ℕ) (life : Option ℕ) → IsCreation (map string_bytes words.now) text life → V.honest ≡ true → MakesOne result.0 (AllMade text life (V.directory result.1)) }
+
+    // `run`: which input and which directory may end so; nothing of a session is written before the input was read to its end.
+    ensures input { IsSession (map string_bytes words.now) → IfSome (S.left source.old) (MayEnd result.0 V.honest (V.directory dir)) }
+    ensures read_first { IsSession (map string_bytes words.now) → ReadsFirst result.0 (S.left source.new) }
+
+    // What is written: the text of a session, of a history that began with the loaded table. By that history each stop leaves
+    // what was durable then.
+    ensures text { IsSession (map string_bytes words.now) → IfSome (S.left source.old) (λ input. WritesText (λ text. Served V.honest (C.shows clock.now) (V.directory dir) (V.directory result.1) input text (first_count V.faults devices.old.items) (first_count V.faults devices.new.items)) result.0 (K.held sink.old) (K.held sink.new)) }
+
+    // What a stop may leave, however it ended.
+    ensures any_moment { IsSession (map string_bytes words.now) → Leaves result.0 V.honest (V.directory dir) (V.directory result.1) }
 {
-    if !is_session(words) {
-        return refuse(sink, Status::Usage);
+    let device = &mut devices[0];
+    if is_session(words) {
+        return serve(alloc, source, sink, dir, device, clock);
     }
-    match read_all(alloc, source) {
-        Ok(input) => answer(alloc, sink, input.as_slice()),
-        Err(ReadAllError::Fault) => refuse(sink, Status::SourceFault),
-        Err(ReadAllError::TooLong) => refuse(sink, Status::TooLong),
-        Err(ReadAllError::NoMemory) => refuse(sink, Status::NoMemory),
+    match creation_of(words) {
+        Some(asked) => create(alloc, sink, asked.schema, asked.life, dir, device),
+        None => (refuse(alloc, sink, Status::Usage), dir),
     }
 }

@@ -1,10 +1,16 @@
-use Rattle.std.proofs.Common.{length}
-use Rattle.lt_serve.specs.Growing.{ReadSoFar}
+use Rattle.std.proofs.Common.{◌≤◌, length}
+use Rattle.lt_serve.specs.Growing.{ReadSoFar, HasHistory}
+use Rattle.lt_serve.specs.Kept.{StaysKept}
 use Rattle.lt_serve.proofs.session.session_over.Given as goal
 
 -- the front of the input that was read is answered so far
 abbrev pub invariant-loop-bytes : goal.invariant-loop-bytes
-invariant-loop-bytes l = ReadSoFar l.input l.rest l.session.table l.session.client l.session.text.items l.number
+invariant-loop-bytes g l = record {
+  read : ReadSoFar (g.C.Clock.shows l.clock) l.fn.store.table l.store.table l.fn.client l.input l.rest l.text.items (g.V.Device.faults l.fn.device) (g.V.Device.faults l.device);
+  history : HasHistory l.fn.store.table l.store.table;
+  kept : StaysKept g.V.Device.honest l.fn.store.table l.store.table l.fn.store.anchor.directory l.store.anchor.directory;
+  later : g.V.Device.faults l.fn.device ≤ g.V.Device.faults l.device;
+}
 
 abbrev pub decreases-loop-bytes : goal.decreases-loop-bytes
-decreases-loop-bytes l = length l.rest
+decreases-loop-bytes g l = length l.rest

@@ -1,7 +1,7 @@
 use Rattle.std.proofs.Common.{◌≡◌, string_bytes, sym, ◌∙◌}
 use Rattle.std.specs.Prelude.{codes}
 use Rattle.std.specs.Cmp.Lexicographic.{bytes_decides}
-use Rattle.lt_serve.proofs.ThreeWords.{by_first_and_last}
+use Rattle.lt_serve.proofs.SeveralWords.{by_first_and_last}
 use Rattle.lt_serve.proofs.words.is_session.Goals as goal
 
 pub returns-then-eq : goal.returns-then-eq

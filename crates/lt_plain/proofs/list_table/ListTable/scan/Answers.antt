@@ -10,8 +10,8 @@ use Rattle.lt_plain.specs.Table.{Answers, IsPage}
 use Rattle.lt_plain.proofs.Steps.{answers_rows}
 use Rattle.lt_plain.proofs.list_table.ListTable.scan.Goals as goal
 
-pub returns : goal.returns
-returns c =
+pub returns-clause-answered : goal.returns-clause-answered
+returns-clause-answered c =
     let inside = c.self.inside in
     let held : Opening = record { schemas = inside.schemas; life = inside.life; low = inside.low; next = inside.next; kept = inside.kept; rows = inside.rows.items } in
     let query = c.args.query.now in
@@ -23,8 +23,5 @@ returns c =
     let shown : IsPage held.schemas query (bound_at held.life held.low now) held.rows page.rows page.more =
     subst (λ (rows : List Numbered). IsPage held.schemas query (bound_at held.life held.low now) rows page.rows page.more) c.as_slice.ensures.value
     (subst (λ (since : ℕ). IsPage held.schemas query since c.as_slice.result.now page.rows page.more) bound c.in_ok-page.ensures) in
-    record {
-      answered =
-          subst (λ (o : Opening). Answers o o now (Scan query) (Rows page.rows page.more held.next c.since-since.result)) c.self.view_is
-          (subst (λ (since : ℕ). Answers held held now (Scan query) (Rows page.rows page.more held.next since)) (sym bound) (answers_rows held query now page.rows page.more right bounds shown));
-    }
+    subst (λ (o : Opening). Answers o o now (Scan query) (Rows page.rows page.more held.next c.since-since.result)) c.self.view_is
+    (subst (λ (since : ℕ). Answers held held now (Scan query) (Rows page.rows page.more held.next since)) (sym bound) (answers_rows held query now page.rows page.more right bounds shown))

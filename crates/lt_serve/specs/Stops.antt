@@ -1,0 +1,62 @@
+-- What a stop may leave of the directory that a session runs in.
+use Rattle.std.specs.Prelude.{◌≡◌, ◌⊎◌, ◌≤◌, ◌<◌, ℕ, Bool, true, List, []}
+use Rattle.lt_io.specs.Directory.{Image, Directory, Fits, PossibleAt, moment}
+use Rattle.lt_desc.specs.Shape.{StoneShape}
+use Rattle.lt_commit.specs.Anchored.{NothingNew}
+use Rattle.lt_model.specs.History.{Opening, History}
+use Rattle.lt_model.specs.Readings.{schemas}
+use Rattle.lt_model.specs.Legal.{IsLegal}
+use Rattle.lt_model.specs.Crash.{IsCrash}
+use Rattle.lt_serve.specs.Loaded.{durable_by, opening_of, OpensTo, IsLoadedFrom}
+use Rattle.lt_serve.specs.Kept.{Extends}
+use Rattle.lt_serve.specs.Growing.{IsAnswered}
+use Rattle.lt_serve.specs.declared.status.Status.{Status}
+use Rattle.lt_serve.specs.declared.status.Status.TheVariants.{Done, SinkFault, NoMemory}
+
+-- the image opens to what a stop leaves of the history, by a stone below whose number as much is durable as at the opening
+pub record OpensAfter (h : History) (image : Image) : Type 0 where
+  pub stone : StoneShape
+  pub found : Opening
+  pub opens : OpensTo image stone found
+  pub crash : IsCrash h (durable_by stone) found
+  pub upto : stone.upto ≡ h.opening.kept
+
+-- and no change of the schema is lost
+pub record OpensToAll (h : History) (image : Image) : Type 0 where
+  pub after : OpensAfter h image
+  pub versions : Extends (schemas h) after.stone.schemas
+
+-- Until a table was loaded, a stop may leave what it might have left before; from then on each image that it may leave opens
+-- to the crash of the history; and now each has all changes of the schema that the history has.
+pub record StopsOpen (h : History) (old new : Directory) : Type 0 where
+  pub loaded : ℕ
+  pub no_earlier : moment old ≤ loaded
+  pub by_now : loaded ≤ moment new
+  pub before : (at : ℕ) (image : Image) → moment old ≤ at → at < loaded → PossibleAt new at image → Fits image old.now
+  pub since : (at : ℕ) (image : Image) → loaded ≤ at → PossibleAt new at image → OpensAfter h image
+  pub acknowledged : (image : Image) → PossibleAt new (moment new) image → OpensToAll h image
+
+-- a session that was answered: the text and the stops are of one history, which began with what the loaded stone tells
+pub record Served (told : Bool) (clock : ℕ → Type 0) (old new : Directory) (input text : List ℕ) (before now : ℕ) : Type 0 where
+  pub stone : StoneShape
+  pub loaded : IsLoadedFrom told old stone
+  pub bare : stone.tablets ≡ []
+  pub held : Opening
+  pub answered : IsAnswered clock (opening_of stone) held input text before now
+  pub stops : told ≡ true → StopsOpen answered.whole.history old new
+
+-- a session that loaded a table and got so far
+pub record RanOn (told : Bool) (old new : Directory) : Type 0 where
+  pub stone : StoneShape
+  pub loaded : IsLoadedFrom told old stone
+  pub history : History
+  pub opened : history.opening ≡ opening_of stone
+  pub legal : IsLegal history
+  pub stops : told ≡ true → StopsOpen history old new
+
+-- what a run leaves, by its status: nothing that wasn't possible before, unless lines were carried out
+abbrev pub Leaves : Status → Bool → Directory → Directory → Type 0
+Leaves Done told old new = RanOn told old new
+Leaves SinkFault told old new = RanOn told old new
+Leaves NoMemory told old new = (told ≡ true → NothingNew old new) ⊎ RanOn told old new
+Leaves _ told old new = told ≡ true → NothingNew old new

@@ -1,0 +1,180 @@
+//! A table, and the directory whose descriptor tells of it.
+ghost use Rattle.std.specs.Prelude.{◌≡◌, ◌≤◌, ◌<◌, ◌^◌, IsTrue, IfOk, IfErr, OnErr};
+ghost use Rattle.lt_serve.specs.Kept.{commit_reply, is_life};
+
+use lt_commit::{Anchor, CommitError};
+use lt_desc::{Stone, Tablets};
+use lt_io::Device;
+use lt_lang::{Command, Reply};
+use lt_plain::ListTable;
+use lt_rec::NoMemory;
+use lt_schema::{Change, Schemas};
+use std::alloc::Global;
+
+/// A table without rows in files, and the directory whose descriptor tells of it.
+#[derive(Drop)]
+pub struct Store<V: Device> {
+    table: ListTable,
+    anchor: Anchor<V>,
+    // Files from this number on are free.
+    next_file: u64,
+    ghost upto: { table.kept ≤ 2 ^ 62 },
+    ghost low: { table.low < 2 ^ 62 },
+    ghost life: { IsTrue (is_life table.life) },
+    ghost free: { anchor.directory.now.ceiling ≤ next_file },
+    ghost in_range: { next_file ≤ 2 ^ 62 },
+}
+
+/// The reply, which tells it where memory was wanted.
+fn told(answered: Result<Reply, NoMemory>) -> Reply
+    ensures reply { IfOk answered (λ reply. result ≡ reply) }
+    ensures no_memory { OnErr answered (result ≡ Reply.NoMemory) }
+{
+    match answered {
+        Ok(reply) => reply,
+        Err(NoMemory) => Reply::NoMemory,
+    }
+}
+
+/// The reply to a change, which tells it where it was not published.
+fn change_told(altered: Result<Reply, CommitError>) -> Reply
+    ensures reply { IfOk altered (λ reply. result ≡ reply) }
+    ensures refused { IfErr altered (λ refused. result ≡ commit_reply refused) }
+{
+    match altered {
+        Ok(reply) => reply,
+        Err(CommitError::Spent) => Reply::Spent,
+        Err(CommitError::Fault) => Reply::Fault,
+        Err(CommitError::NoMemory) => Reply::NoMemory,
+    }
+}
+
+impl<V: Device> Store<V> {
+    ghost use Rattle.std.specs.Prelude.{◌≡◌, ◌≢◌, ◌≤◌, ◌<◌, ◌+◌, ◌^◌, ◌∷◌, [], ℕ, true, Some, Ok, None, IfOk, OnOk, OnErr, IsErrOf, IsTrue};
+    ghost use Rattle.lt_io.specs.Device.{Counts};
+    ghost use Rattle.lt_io.specs.Steps.{Steps};
+    ghost use Rattle.lt_desc.specs.Lawful.{IsStone};
+    ghost use Rattle.lt_desc.specs.Spelling.{spelling};
+    ghost use Rattle.lt_lang.specs.declared.command.Command.TheVariants.{Alter};
+    ghost use Rattle.lt_plain.specs.Table.{Answers};
+    ghost use Rattle.lt_serve.specs.Session.{is_built};
+    ghost use Rattle.lt_serve.specs.Kept.{Renews, TellsOf, AllTell, Extends, StaysKept, head_of};
+
+    /// A table, the anchor of its directory, and the next free file number.
+    pub fn new(table: ListTable, anchor: Anchor<V>, next_file: u64) -> Store<V>
+        requires upto { table.kept ≤ 2 ^ 62 }
+        requires low { table.low < 2 ^ 62 }
+        requires life { IsTrue (is_life table.life) }
+        requires free { anchor.directory.now.ceiling ≤ next_file }
+        requires in_range { next_file ≤ 2 ^ 62 }
+        ensures table { result.table ≡ table }
+        ensures directory { result.anchor.directory ≡ anchor.directory }
+    {
+        Store {
+            table,
+            anchor,
+            next_file,
+        }
+    }
+
+    pub fn table(&self) -> &ListTable
+        ensures { result.now ≡ self.now.table }
+    {
+        &self.table
+    }
+
+    /// The directory given back.
+    pub fn into_dir(self) -> V::Dir
+        ensures { V.directory result ≡ self.anchor.directory }
+    {
+        let Store {
+            table: _table,
+            anchor,
+            next_file: _next_file,
+        } = self;
+        anchor.into_dir()
+    }
+
+    /// The stone of the table under these schemas, whose descriptor file has that number. Takes no memory.
+    fn stone_under(&self, alloc: Global, schemas: Schemas, file: u64) -> Stone
+        requires { file < 2 ^ 62 }
+        ensures parts { result ≡ record { upto = self.now.table.kept; low = self.now.table.low; ttl = self.now.table.life; next_file = file + 1; schemas = schemas; tablets = [] } }
+        ensures lawful { IsStone result }
+    {
+        let _first = schemas.first();
+        Stone::new(
+            self.table.kept(),
+            self.table.low(),
+            self.table.life(),
+            file + 1,
+            schemas,
+            Tablets::from_vec(Vec::new(alloc)),
+        )
+    }
+
+    /// Publishes the table's stone under other schemas, by the next free file number.
+    fn publish(
+        &mut self,
+        alloc: Global,
+        device: &mut V,
+        schemas: Schemas,
+    ) -> Result<(), CommitError>
+        ensures table { self.new.table ≡ self.old.table }
+        ensures any_moment { V.honest ≡ true → Steps (Renews (head_of self.old.table)) self.old.anchor.directory self.new.anchor.directory }
+        ensures published { V.honest ≡ true → OnOk result (AllTell (record self.old.table { schemas = schemas }) self.new.anchor.directory.now) }
+        ensures lost { V.honest ≡ true → Extends self.old.table.schemas schemas → AllTell self.old.table self.old.anchor.directory.now → AllTell self.old.table self.new.anchor.directory.now }
+        ensures spent { IsErrOf result CommitError.Spent → 2 ^ 62 ≤ self.old.next_file }
+        ensures unspent { OnOk result (self.old.next_file < 2 ^ 62) }
+        ensures cause { Counts (V.faults device.old) (V.faults device.new) (IsErrOf result CommitError.Fault) }
+    {
+        let file = self.next_file;
+        if file >= Stone::MOST {
+            return Err(CommitError::Spent);
+        }
+        let stone = self.stone_under(alloc, schemas, file);
+        // The number is used up, whatever comes of it.
+        self.next_file = file + 1;
+        self.anchor.publish(device, file, stone)
+    }
+
+    /// The version that the change makes, or the first cause against it.
+    fn alter(
+        &mut self,
+        alloc: Global,
+        device: &mut V,
+        change: &Change,
+    ) -> Result<Reply, CommitError>
+        ensures answered { IfOk result (λ reply. (now : ℕ) → Answers self.old.table self.new.table now (Alter change.now) reply) }
+        ensures unchanged { OnErr result (self.new.table ≡ self.old.table) }
+        ensures kept { StaysKept V.honest self.old.table self.new.table self.old.anchor.directory self.new.anchor.directory }
+        ensures plain { IfOk result (λ reply. (reply ≢ Reply.Fault) × (reply ≢ Reply.Spent)) }
+        ensures spent { IsErrOf result CommitError.Spent → 2 ^ 62 ≤ self.old.next_file }
+        ensures cause { Counts (V.faults device.old) (V.faults device.new) (IsErrOf result CommitError.Fault) }
+    {
+        if let Err(why) = self.table.schemas().admits(change) {
+            return Ok(Reply::Refused { why });
+        }
+        let schemas = self.table.schemas().with(change)?;
+        // No memory is taken between the descriptor and the table.
+        self.publish(alloc, device, schemas.clone()?)?;
+        Ok(self.table.replace_schemas(schemas))
+    }
+
+    /// The reply to a command that is built, at that moment.
+    pub fn answer(&mut self, alloc: Global, device: &mut V, command: Command, now: u64) -> Reply
+        requires built { IsTrue (is_built command) }
+        ensures answered { Answers self.old.table self.new.table now command result }
+        ensures kept { StaysKept V.honest self.old.table self.new.table self.old.anchor.directory self.new.anchor.directory }
+        ensures cause { Counts (V.faults device.old) (V.faults device.new) (result ≡ Reply.Fault) }
+    {
+        match command {
+            Command::Insert { row } => told(self.table.insert(row, now)),
+            Command::Scan { query } => told(self.table.scan(alloc, &query, now)),
+            Command::Alter { change } => change_told(self.alter(alloc, device, &change)),
+            Command::Latest { prefix: _ }
+            | Command::Flush { tablet: _ }
+            | Command::Upkeep
+            | Command::Tablets => unreachable!(),
+        }
+    }
+}
