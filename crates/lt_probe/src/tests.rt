@@ -151,6 +151,10 @@ fn counted<L: Ledger>(
     )
 }
 
+fn found(alloc: Global, fails: &[Failing], newer_first: bool, ask: Ask) -> Result<Answer, Fail> {
+    counted::<Brand>(alloc, fails, newer_first, ask, Blank::new(1))
+}
+
 static A5: [u8; 9] = [b'a', 0, 0, 0, 0, 0, 0, 0, 5];
 
 static A9: [u8; 9] = [b'a', 0, 0, 0, 0, 0, 0, 0, 9];
@@ -178,8 +182,8 @@ fn keys_and_prefixes(rt: HostRuntime) -> Result<(), Fail> {
     ];
     for (ask, wanted) in cases {
         for newer_first in [false, true] {
-            let found = counted::<Brand>(rt.alloc(), &[], newer_first, ask, Blank::new(1))?;
-            assert_eq!(rt; found, Ok(wanted), "{ask:?}, the newer first {newer_first}");
+            let given = found(rt.alloc(), &[], newer_first, ask)?;
+            assert_eq!(rt; given, Ok(wanted), "{ask:?}, the newer first {newer_first}");
         }
     }
     Ok(())
@@ -201,8 +205,8 @@ fn a_read_that_fails(rt: HostRuntime) -> Result<(), Fail> {
             nth,
             done: false,
         };
-        let found = counted::<Brand>(rt.alloc(), &[fail], false, ask, Blank::new(1))?;
-        assert_eq!(rt; found, wanted, "{ask:?}, read {nth} fails");
+        let given = found(rt.alloc(), &[fail], false, ask)?;
+        assert_eq!(rt; given, wanted, "{ask:?}, read {nth} fails");
     }
     Ok(())
 }
