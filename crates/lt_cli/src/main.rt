@@ -27,7 +27,8 @@ const VERSION: &str = "vashmoon 0.1.0";
 
 /// The schema of the table that the program serves: a net's name, a device and a time, which are the key, and a number of
 /// bytes.
-const SCHEMA: &str = r#"{"columns":[{"name":"net","kind":"text"},{"name":"dev","kind":"int32"},{"name":"ts","kind":"time"},{"name":"bytes","kind":"int64","default":0}],"key":3}"#;
+const SCHEMA: &str =
+    r#"{"columns":[{"name":"net","kind":"text"},{"name":"dev","kind":"int32"},{"name":"ts","kind":"time"},{"name":"bytes","kind":"int64","default":0}],"key":3}"#;
 
 /// The greatest moment, in microseconds since the Unix epoch.
 const LATEST: u64 = (1 << 62) - 1;
@@ -72,15 +73,7 @@ fn table(
     let mut source = MemSource::new(alloc, Octets::from_slice(alloc, b"")?, &[])?;
     let mut sink = MemSink::new(alloc, &[])?;
     let dir = MemDir::new(alloc)?;
-    let (_, dir) = run(
-        alloc,
-        &words,
-        &mut source,
-        &mut sink,
-        dir,
-        devices,
-        clock,
-    );
+    let (_, dir) = run(alloc, &words, &mut source, &mut sink, dir, devices, clock);
     Ok(dir)
 }
 
