@@ -6,7 +6,7 @@ ghost use Rattle.std.specs.Prelude.{◌≡◌, ◌<◌, vec_len};
 use lt_io::{FixedClock, MemSink, MemSource, ReaderSource, WriterSink};
 use lt_memdev::{MemDevice, MemDir};
 use lt_rec::{NoMemory, Octets};
-use lt_serve::run;
+use lt_serve::{Status, run};
 use std::alloc::Global;
 use std::process::ExitCode;
 use std::time::SystemTime;
@@ -57,7 +57,7 @@ fn no_memory(_refused: NoMemory) -> io::Error {
     io::Error::from(io::ErrorKind::OutOfMemory)
 }
 
-// A directory in memory with an empty table.
+// A directory in memory with an empty table. On a device that never fails, memory alone can be wanting.
 fn table(
     alloc: Global,
     devices: &mut Vec<MemDevice>,
@@ -73,8 +73,11 @@ fn table(
     let mut source = MemSource::new(alloc, Octets::from_slice(alloc, b"")?, &[])?;
     let mut sink = MemSink::new(alloc, &[])?;
     let dir = MemDir::new(alloc)?;
-    let (_, dir) = run(alloc, &words, &mut source, &mut sink, dir, devices, clock);
-    Ok(dir)
+    let (status, dir) = run(alloc, &words, &mut source, &mut sink, dir, devices, clock);
+    if status == Status::Done {
+        return Ok(dir);
+    }
+    Err(NoMemory)
 }
 
 // Does what the words ask for, over a table in memory.
