@@ -15,9 +15,10 @@ use Rattle.lt_rec.specs.declared.cut.Cut.{Cut}
 use Rattle.lt_block.specs.Spelling.{IsBlock}
 use Rattle.lt_bloom.specs.Filter.{admits, filter_bytes}
 use Rattle.lt_bloom.specs.Hash.{hash_of}
-use Rattle.lt_tablet.specs.Spelling.{Entry, end_of, hashes_from}
+use Rattle.lt_tablet.specs.Spelling.{Entry, Totals, end_of, hashes_from}
 use Rattle.lt_tablet.specs.Entries.{IsEntries}
-use Rattle.lt_tablet.specs.Loaded.{Loaded, IsTold, IsIndexRange, blocks_in, records_in, times_meet, may_have}
+use Rattle.lt_tablet.specs.Loaded.{Loaded, IsTold, IsIndexRange, blocks_in, records_in, listed_totals, times_meet, may_have}
+use Rattle.lt_tablet.proofs.Sums.{Within, all_within}
 use Rattle.lt_probe.specs.Keys.{HasNumber, NoneHas, is_spanned, may_have_key}
 use Rattle.lt_probe.specs.Sought.{key_box}
 use Rattle.std.proofs.lemmas.List.{get_or_default}
@@ -162,6 +163,21 @@ counted t key from to h some filter =
 
 pub block_of : (t : Loaded) (i : ℕ) (recs : List Record) → IsTold t → slice_get (blocks_in t) i ≡ Some recs → IsBlock recs
 block_of t i recs told q = subst IsBlock (get_or_from_slice_get (blocks_in t) i recs recs q) (All-from_recursion IsBlock (blocks_in t) told.tablet.each i recs (slice_get_within (blocks_in t) i recs q))
+
+pub all_lawful : (t : Loaded) → IsTold t → All IsRecord (records_in t)
+all_lawful t told = all_joined IsRecord (blocks_in t) (λ i recs q. lawful recs (block_of t i recs told q).lawful)
+
+pub within_listed : (t : Loaded) → IsTold t → All (Within (listed_totals t.listed)) (records_in t)
+within_listed t told = All-from_recursion (Within (listed_totals t.listed)) (records_in t)
+    (subst (λ (s : Totals). AllByRecursion (Within s) (records_in t)) told.totals (all_within (records_in t)))
+
+-- no record has a key whose timestamp isn't one of the tablet's
+pub none_at_that_time : (t : Loaded) (key : List ℕ) → IsTold t → (leb t.listed.low (time_of key) && leb (time_of key) t.listed.high) ≡ false → NoneHas (records_in t) key
+none_at_that_time t key told out k d h same =
+    let r = get_or (records_in t) k d in
+    let time : r.ts ≡ time_of key = timed r (all_lawful t told k d h) ∙ ap time_of same in
+    let clash : true ≡ false = sym (within_listed t told k d h).timed ∙ ap (λ n. leb t.listed.low n && leb n t.listed.high) time ∙ out in
+    absurd cc
 
 -- no record has a key that is too short
 pub none_short : (t : Loaded) (key : List ℕ) → IsTold t → length key < 8 → NoneHas (records_in t) key

@@ -82,9 +82,24 @@ latest_chain xs ys prefix since best mid found h k = record {
       | inr held ↦ inr (Contains-append_right xs ys f held.0, held.1)
     ]
 
+-- the latest of some records is that of all where none of the others that is asked for is after it
+pub latest_around : (front mid end : List Record) (prefix : List ℕ) (since : ℕ) (best found : Option Record) → IsLatest mid prefix since best found → All (λ r. is_asked prefix since r ≡ true → IsCovered found r) front → All (λ r. is_asked prefix since r ≡ true → IsCovered found r) end → IsLatest (front ++ (mid ++ end)) prefix since best found
+latest_around front mid end prefix since best found h ahead behind = record {
+  one = is_one found h.one;
+  over_best = h.over_best;
+  over_all = All-append (λ r. is_asked prefix since r ≡ true → IsCovered found r) front (mid ++ end) ahead (All-append (λ r. is_asked prefix since r ≡ true → IsCovered found r) mid end h.over_all behind);
+}
+  where
+    is_one : (o : Option Record) → IfSome o (λ f. (best ≡ Some f) ⊎ (Contains mid f × (is_asked prefix since f ≡ true))) → IfSome o (λ f. (best ≡ Some f) ⊎ (Contains (front ++ (mid ++ end)) f × (is_asked prefix since f ≡ true)))
+    is_one None one = tt
+    is_one (Some f) one = elim one [
+      | inl first ↦ inl first
+      | inr held ↦ inr (Contains-append_right front (mid ++ end) f (Contains-append_left mid end f held.0), held.1)
+    ]
+
 -- ---- one block
 
-or_begins : (less begins : Bool) → less ≡ false → (less || (true && begins)) ≡ true → begins ≡ true
+pub or_begins : (less begins : Bool) → less ≡ false → (less || (true && begins)) ≡ true → begins ≡ true
 or_begins false begins e h = h
 or_begins true begins e h = absurd cc
 

@@ -7,5 +7,7 @@ mod Tablets
 mod Picking
 mod Later
 mod Range
+mod Times
+mod WholeStem
 mod OneTablet
 mod ManyTablets

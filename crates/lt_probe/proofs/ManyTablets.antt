@@ -1,6 +1,6 @@
 -- The latest record of tablets, one after the other.
 use Rattle.std.proofs.Common.{◌≡◌, ℕ, ◌+◌, ◌<◌, ◌≤◌, ◌&&◌, Bool, true, false, not, cond, List, [], ◌∷◌, ◌++◌, length, take, map, get_or, refl, sym, ap, ◌∙◌, arith, inl, inr}
-use Rattle.std.specs.Prelude.{Option, Some, None, IfSome, count_by, slice_get}
+use Rattle.std.specs.Prelude.{Option, Some, None, IfSome, min, slice_get}
 use Rattle.std.specs.List.{All, Any, sum_by}
 use Rattle.std.specs.Option.{option_map}
 use Rattle.std.proofs.lemmas.Bool.{ltb-true, lt-ltb}
@@ -9,9 +9,9 @@ use Rattle.std.proofs.lemmas.List.Sums.{sum_by_more, sum_by-take-le}
 use Rattle.std.proofs.lemmas.Option.{slice_get_read, slice_get-map}
 use Rattle.lt_rec.specs.Record.{Record}
 use Rattle.lt_rec.specs.Records.{joined}
-use Rattle.lt_tablet.specs.Loaded.{Loaded, records_in, times_meet, may_have}
-use Rattle.lt_probe.specs.Asked.{Question, admits_question, prefix_box}
-use Rattle.lt_probe.specs.Counting.{blocks_asked, is_behind}
+use Rattle.lt_tablet.specs.Loaded.{Loaded, records_in}
+use Rattle.lt_probe.specs.Asked.{Question, admits_question}
+use Rattle.lt_probe.specs.Counting.{blocks_asked, blocks_with_room, is_behind}
 use Rattle.lt_probe.specs.Latest.{IsCovered, records_of}
 use Rattle.lt_probe.proofs.Blocks.{all_part, any_joined}
 use Rattle.lt_probe.proofs.Range.{joined_push}
@@ -58,4 +58,4 @@ behind_more t (Some b) (Some f) h k =
 pub fewer : (q : Question) (t : Loaded) (best found : Option Record) → IfSome best (IsCovered found) → blocks_asked q found t ≤ blocks_asked q best t
 fewer q t best found h =
     by_tests (is_behind t best) (is_behind t found) (admits_question q t.filter)
-    (count_by (λ e. times_meet (prefix_box q.prefix q.since) t.listed && may_have (prefix_box q.prefix q.since) e) t.index) (behind_more t best found h)
+    (cond q.whole (min 1 (blocks_with_room q t)) (blocks_with_room q t)) (behind_more t best found h)

@@ -1,5 +1,5 @@
 -- Blocks from one up to another, and those around them.
-use Rattle.std.proofs.Common.{◌≡◌, ◌⊎◌, ℕ, zero, suc, ◌+◌, ◌-◌, ◌<◌, ◌≤◌, List, [], ◌∷◌, ◌++◌, length, take, drop, get_or, refl, sym, ap, ◌∙◌, arith, inl, inr, append_assoc, append-nil, length-drop}
+use Rattle.std.proofs.Common.{◌≡◌, ℕ, zero, suc, ◌+◌, ◌-◌, ◌<◌, ◌≤◌, List, [], ◌∷◌, ◌++◌, length, take, drop, get_or, refl, sym, ap, ◌∙◌, arith, append_assoc, append-nil, length-drop}
 use Rattle.std.specs.Prelude.{slice_get, Some}
 use Rattle.std.specs.List.{All}
 use Rattle.std.proofs.lemmas.List.{take_more, get_or-drop, take-append-drop}
@@ -20,6 +20,11 @@ joined_push ps p = joined-append ps (p ∷ []) ∙ ap (λ xs. joined ps ++ xs) (
 pub length-entries_of : (at : ℕ) (blocks : List (List Record)) → length (entries_of at blocks) ≡ length blocks
 length-entries_of at [] = refl
 length-entries_of at (b ∷ blocks) = ap suc (length-entries_of (at + length (spelling b)) blocks)
+
+pub block_next : (blocks : List (List Record)) (i : ℕ) (block : List Record) → slice_get blocks i ≡ Some block → joined (take (i + 1) blocks) ≡ joined (take i blocks) ++ block
+block_next blocks i block q =
+    ap joined (take_more blocks i block (slice_get_within blocks i block q)) ∙ joined_push (take i blocks) (get_or blocks i block)
+    ∙ ap (λ b. joined (take i blocks) ++ b) (get_or_from_slice_get blocks i block block q)
 
 -- a block more
 pub block_more : (blocks : List (List Record)) (from at : ℕ) (block : List Record) → from ≤ at → slice_get blocks at ≡ Some block → joined (take (at + 1 - from) (drop from blocks)) ≡ joined (take (at - from) (drop from blocks)) ++ block
@@ -50,11 +55,10 @@ back_get zero xs i x q = let s : 0 + i ≡ i = omega arith in ap (slice_get xs) 
 back_get (suc n) [] i x q = absurd cc
 back_get (suc n) (b ∷ xs) i x q = let s : suc n + i ≡ suc (n + i) = omega arith in ap (slice_get (b ∷ xs)) s ∙ back_get n xs i x q
 
--- what holds in each block outside the range holds of all records before it, and of all behind it
-module _ (P : Record → Type 0) (blocks : List (List Record)) (from to : ℕ) (ordered : from ≤ to) (outside : (i : ℕ) (recs : List Record) → slice_get blocks i ≡ Some recs → ((i < from) ⊎ (to ≤ i)) → All P recs) where
-  pub all_before : All P (joined (take from blocks))
-  all_before = all_joined P (take from blocks) (λ i recs q. let h = front_get from blocks i recs q in outside i recs h.1 (inl h.0))
+-- what holds in each block before one holds of all records before it, and so behind
+pub all_before : (P : Record → Type 0) (blocks : List (List Record)) (from : ℕ) → ((i : ℕ) (recs : List Record) → slice_get blocks i ≡ Some recs → i < from → All P recs) → All P (joined (take from blocks))
+all_before P blocks from each = all_joined P (take from blocks) (λ i recs q. let h = front_get from blocks i recs q in each i recs h.1 h.0)
 
-  pub all_behind : All P (joined (drop (to - from) (drop from blocks)))
-  all_behind = all_joined P (drop (to - from) (drop from blocks)) (λ i recs q.
-      outside (from + ((to - from) + i)) recs (back_get from blocks ((to - from) + i) recs (back_get (to - from) (drop from blocks) i recs q)) (inr (omega arith)))
+pub all_behind : (P : Record → Type 0) (blocks : List (List Record)) (from to : ℕ) → from ≤ to → ((i : ℕ) (recs : List Record) → slice_get blocks i ≡ Some recs → to ≤ i → All P recs) → All P (joined (drop (to - from) (drop from blocks)))
+all_behind P blocks from to ordered each = all_joined P (drop (to - from) (drop from blocks)) (λ i recs q.
+    each (from + ((to - from) + i)) recs (back_get from blocks ((to - from) + i) recs (back_get (to - from) (drop from blocks) i recs q)) (omega arith))

@@ -70,6 +70,12 @@ impl Asked {
         self.area.from
     }
 
+    pub fn is_whole(&self) -> bool
+        ensures { result ≡ self.now.whole }
+    {
+        self.hash.is_some()
+    }
+
     /// Whether the prefix is a whole stem and the filter denies it.
     pub fn is_denied_by(&self, filter: &Filter) -> bool
         ensures exact { result ≡ not (admits_question self.now filter.now) }

@@ -1,4 +1,4 @@
-ghost use Rattle.std.specs.Prelude.{◌≡◌, ◌+◌, ◌≤◌, true, map, count_by, IfOk, IfErr, IfSome, IfNone, IsErrOf, if◌then◌else◌};
+ghost use Rattle.std.specs.Prelude.{◌≡◌, ◌+◌, ◌≤◌, ◌&&◌, true, map, count_by, nat_le, IfOk, IfErr, IfSome, IfNone, IsErrOf, if◌then◌else◌};
 ghost use Rattle.std.specs.Arc.{arc_value};
 ghost use Rattle.lt_io.specs.Device.{Counts};
 ghost use Rattle.lt_tablet.specs.Causes.{IsNoBad, IsOfFile};
@@ -16,6 +16,14 @@ use lt_tablet::{ReadError, Tablet};
 use std::alloc::Global;
 use std::sync::Arc;
 use std::sync::ledger::Ledger;
+
+/// Whether some timestamp of the tablet may be this one.
+fn may_have_time<V: Device>(tablet: &Tablet<V>, time: u64) -> bool
+    ensures { result ≡ (nat_le tablet.now.listed.low time && nat_le time tablet.now.listed.high) }
+{
+    let listed = tablet.listed();
+    listed.low <= time && time <= listed.high
+}
 
 /// The number of the record of one tablet that has the key. A block is read only where the tablet may have the key.
 fn number_of<V: Device, L: Ledger>(
@@ -36,6 +44,9 @@ fn number_of<V: Device, L: Ledger>(
 {
     let count = tablet.count();
     if key.len() < Rec::SHORTEST_KEY {
+        return Ok(None);
+    }
+    if !may_have_time(tablet, sought.area.from) {
         return Ok(None);
     }
     if !tablet.filter().may(sought.hash) {

@@ -1,4 +1,4 @@
-ghost use Rattle.std.specs.Prelude.{◌≡◌, ◌+◌, ◌-◌, ◌<◌, ◌≤◌, true, List, length, map, take, drop, slice_get, Some, IfOk, IfErr, IfSome, IsErrOf};
+ghost use Rattle.std.specs.Prelude.{◌≡◌, ◌+◌, ◌-◌, ◌<◌, ◌≤◌, true, false, List, length, map, take, drop, slice_get, Some, IfOk, IfErr, IfSome, IsErrOf};
 ghost use Rattle.std.specs.Arc.{arc_value};
 ghost use Rattle.std.specs.List.{sum_by};
 ghost use Rattle.lt_rec.specs.Record.{Record};
@@ -86,6 +86,20 @@ fn latest_of_blocks<V: Device, L: Ledger>(
     Ok(found)
 }
 
+/// The first block that is read of those from one up to another. The keys of a whole stem rise with their timestamps, so the
+/// last block has its latest record.
+fn first_read(asked: &Asked, from: u64, to: u64) -> u64
+    ensures last { asked.now.whole ≡ true → from < to → result + 1 ≡ to }
+    ensures part { asked.now.whole ≡ false → result ≡ from }
+    ensures none { to ≤ from → result ≡ from }
+{
+    if asked.is_whole() && from < to {
+        to - 1
+    } else {
+        from
+    }
+}
+
 /// The latest record of one tablet, or the best one so far. No block is read of a tablet that has none after that.
 fn latest_of<V: Device, L: Ledger>(
     alloc: Global,
@@ -112,7 +126,8 @@ fn latest_of<V: Device, L: Ledger>(
     }
     let (from, to) = tablet.index_range(asked.area());
     prove!(to <= count);
-    latest_of_blocks(alloc, dev, asked, tablet, from, to, best, steps)
+    let first = first_read(asked, from, to);
+    latest_of_blocks(alloc, dev, asked, tablet, first, to, best, steps)
 }
 
 /// The latest record of the tablets, or the best one so far.

@@ -1,11 +1,11 @@
-use Rattle.std.proofs.Common.{◌≡◌, ℕ, true, false, sym, ap, subst, ◌∙◌, arith}
+use Rattle.std.proofs.Common.{◌≡◌, ℕ, ◌&&◌, true, false, leb, sym, ap, subst, ◌∙◌, arith}
 use Rattle.std.specs.Prelude.{Contains, Option, Some, None, IfNone, All}
 use Rattle.lt_rec.specs.Boxes.{in_box}
 use Rattle.lt_rec.specs.Record.{Record}
 use Rattle.lt_rec.specs.declared.raw_box.RawBox.{RawBox}
 use Rattle.lt_bloom.specs.Filter.{admits}
 use Rattle.lt_tablet.specs.Loaded.{IsIndexRange}
-use Rattle.lt_probe.proofs.Keys.{denied, none_short, none_in_none, none_in_one, counted, found_in}
+use Rattle.lt_probe.proofs.Keys.{denied, none_at_that_time, none_short, none_in_none, none_in_one, counted, found_in}
 use Rattle.lt_probe.proofs.by_key.number_of.Goals as goal
 
 if_none : {P Q : Type 0} (found : Option ℕ) → (P → Q) → IfNone found P → IfNone found Q
@@ -14,6 +14,13 @@ if_none (Some n) f p = tt
 
 pub returns-then-key-lt-SHORTEST_KEY-clause-none : goal.returns-then-key-lt-SHORTEST_KEY-clause-none
 returns-then-key-lt-SHORTEST_KEY-clause-none g c = λ honest. none_short c.args.tablet.now c.args.key.now (c.count-count.ensures.told honest) (omega arith)
+
+pub returns-then-not-may_have_time-clause-none : goal.returns-then-not-may_have_time-clause-none
+returns-then-not-may_have_time-clause-none g c = λ honest.
+    let t = c.args.tablet.now in
+    let area = c.requires.sought.area (omega arith) in
+    none_at_that_time t c.args.key.now (c.count-count.ensures.told honest)
+    (ap (λ (area : RawBox). leb t.listed.low area.from && leb area.from t.listed.high) (sym area) ∙ sym c.may_have_time.ensures ∙ c.if-not-may_have_time.true)
 
 pub returns-then-not-may-clause-none : goal.returns-then-not-may-clause-none
 returns-then-not-may-clause-none g c = λ honest.

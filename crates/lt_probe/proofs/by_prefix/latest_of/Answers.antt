@@ -8,7 +8,7 @@ use Rattle.lt_tablet.specs.Spelling.{hashes_from}
 use Rattle.lt_tablet.specs.declared.errors.ReadError.{ReadError}
 use Rattle.lt_probe.specs.Asked.{admits_question}
 use Rattle.lt_probe.proofs.Later.{covers_itself}
-use Rattle.lt_probe.proofs.OneTablet.{behind, denied, denied_whole, latest_all, blocks_counted}
+use Rattle.lt_probe.proofs.OneTablet.{IsFirst, behind, denied, denied_whole, latest_all, blocks_counted}
 use Rattle.lt_probe.proofs.by_prefix.latest_of.Goals as goal
 
 admitted_by : (b : Bool) → false ≡ not b → b ≡ true
@@ -45,10 +45,13 @@ returns-clause-value g c = λ honest.
     let q = c.args.asked.now in
     let from = c.index_range-from.result.0 in
     let to = c.index_range-from.result.1 in
-    let range = c.index_range-from.ensures.exact in
+    let first = c.first_read-first.result in
+    let range = subst (λ (area : RawBox). IsIndexRange t area from to) c.area.ensures c.index_range-from.ensures.exact in
+    let is : IsFirst q from to first = record { last = c.first_read-first.ensures.last; part = c.first_read-first.ensures.part; none = c.first_read-first.ensures.none } in
     if_ok c.latest_of_blocks.result
     (latest_all t q from to (c.count-count.ensures.told honest) range.ordered
-    (λ i recs r far. subst (λ (area : RawBox). All (λ (x : Record). in_box area x ≡ false) recs) c.area.ensures (c.index_range-from.ensures.outside honest i recs r far)) c.args.best)
+    (λ i recs r far. subst (λ (area : RawBox). All (λ (x : Record). in_box area x ≡ false) recs) c.area.ensures (c.index_range-from.ensures.outside honest i recs r far))
+    first range is (c.requires.whole honest) c.args.best)
     (c.latest_of_blocks.ensures.value honest)
 
 pub returns-clause-ticks : goal.returns-clause-ticks
@@ -57,6 +60,8 @@ returns-clause-ticks g c =
     let q = c.args.asked.now in
     let from = c.index_range-from.result.0 in
     let to = c.index_range-from.result.1 in
+    let first = c.first_read-first.result in
     let range = subst (λ (area : RawBox). IsIndexRange t area from to) c.area.ensures c.index_range-from.ensures.exact in
+    let is : IsFirst q from to first = record { last = c.first_read-first.ensures.last; part = c.first_read-first.ensures.part; none = c.first_read-first.ensures.none } in
     let admitted : admits_question q t.filter ≡ true = ap (admits_question q) (sym c.filter.ensures.value) ∙ admitted_by (admits_question q c.filter.result.now) (sym c.if-is_denied_by.false ∙ c.is_denied_by.ensures.exact) in
-    omega (arith, c.latest_of_blocks.ensures.ticks, blocks_counted t q c.args.best from to range (sym c.is_earlier.ensures ∙ c.if-is_earlier.false) admitted)
+    omega (arith, c.latest_of_blocks.ensures.ticks, blocks_counted t q c.args.best from to first range is (sym c.is_earlier.ensures ∙ c.if-is_earlier.false) admitted)
