@@ -14,12 +14,8 @@ use Rattle.lt_block.proofs.Fields.{IsBytes, bind_ok, ok_is, Takes, wide32, wide6
 use Rattle.lt_block.proofs.Records.{spelled_len, record_takes, record_again, records_take, AllFound}
 use Rattle.lt_block.proofs.Blocks.{block_takes, time_is}
 use Rattle.lt_tablet.specs.Spelling.{Entry, Totals, first_key}
-use Rattle.lt_tablet.specs.Reading.{asked, holds, is_within, suits_key, suits_bytes, own_record_at, own_records_at, own_block_at}
+use Rattle.lt_tablet.specs.Reading.{asked, holds, is_within, suits, suits_key, suits_bytes, own_record_at, own_records_at, own_block_at}
 use Rattle.lt_tablet.proofs.Asked.{done, asked_ok, asked_again, holds_ok, holds_again, same_bytes, bytes_same_by}
-
--- what the tablet asks of a record that `left` others follow in its block
-abbrev pub suits : Totals → Entry → ℕ → List ℕ → Record → Bool
-suits t e left last r = is_within t.first t.last r.seq && suits_key t e left last r.key
 
 suits_spelled : (t : Totals) (e : Entry) (left : ℕ) (last : List ℕ) (r : Record) (rest : List ℕ) → IsRecord r → suits_bytes t e left last (length r.key) (spelled r ++ rest) ≡ suits t e left last r
 suits_spelled t e left last r rest h =
@@ -59,6 +55,16 @@ own_record_again t e left at last r rest h above suited =
     ap (λ (q : Result (ℕ × List ℕ) ℕ). q >>= from_len t e left at last (spelled r ++ rest)) (asked_again is_key_len at (number_at w32 at (spelled r ++ rest)) (length r.key, n.0) n.1 test)
     ∙ (ap (λ (q : Result (Unit {0}) ℕ). q >>= λ _. record_at at last (spelled r ++ rest)) (holds_again (suits_bytes t e left last (length r.key) (spelled r ++ rest)) at (suits_spelled t e left last r rest h ∙ suited))
     ∙ record_again at last r rest h above)
+
+-- a record that was read, and that suits
+pub own_record_given : (t : Totals) (e : Entry) (left at : ℕ) (last bytes : List ℕ) (x : Record × List ℕ) → IsBytes bytes → record_at at last bytes ≡ Ok x → suits t e left last x.0 ≡ true → own_record_at t e left at last bytes ≡ Ok x
+own_record_given t e left at last bytes x fits q suited =
+    let found = record_takes at last bytes x fits q in
+    ap (own_record_at t e left at last) found.takes.parts ∙ own_record_again t e left at last x.0 x.1 found.lawful found.above suited
+
+-- its key has a timestamp
+pub key_is_long : (at : ℕ) (last bytes : List ℕ) (x : Record × List ℕ) → IsBytes bytes → record_at at last bytes ≡ Ok x → 8 ≤ length x.0.key
+key_is_long at last bytes x fits q = (record_takes at last bytes x fits q).lawful.long_enough
 
 -- ---- records one after the other
 

@@ -91,6 +91,10 @@ is_within low high n = nat_le low n && nat_le n high
 abbrev pub suits_key : Totals → Entry → ℕ → List ℕ → List ℕ → Bool
 suits_key t e left last key = is_within t.low t.high (time_of key) && ((nat_lt 0 (length last) || pointwise nat_eq key e.first) && (nat_lt 0 left || pointwise nat_eq key e.last))
 
+-- what the tablet asks of a record that is whole
+abbrev pub suits : Totals → Entry → ℕ → List ℕ → Record → Bool
+suits t e left last r = is_within t.first t.last r.seq && suits_key t e left last r.key
+
 -- The bytes of a record begin with its key's length, and have its number from 8 on and its key from 20 on. What is not
 -- whole isn't asked of here, and is found later.
 abbrev pub suits_bytes : Totals → Entry → ℕ → List ℕ → ℕ → List ℕ → Bool

@@ -3,7 +3,7 @@ ghost use Rattle.std.specs.Prelude.{◌≡◌, ◌≤◌, ◌+◌, ◌||◌, nat
 ghost use Rattle.std.specs.Int.{w64, from_be_bytes};
 ghost use Rattle.lt_rec.specs.Record.{stem_of, time_of, stored_len};
 ghost use Rattle.lt_block.specs.Reading.{Reads};
-ghost use Rattle.lt_tablet.specs.Reading.{is_within, suits_key, suits_bytes, own_record_at};
+ghost use Rattle.lt_tablet.specs.Reading.{is_within, suits, suits_key, suits_bytes, own_record_at};
 
 use crate::footer::holds;
 use crate::index::{IndexEntry, is_key_length};
@@ -76,10 +76,23 @@ fn bytes_suit(
     key_suits(totals, entry, left, last, key)
 }
 
-/// The record that the bytes begin with, at offset `at` of its block: so many are left behind it in the block, and `last`
-/// is the key before, or empty. Its fault is the first one, be it the block's or the tablet's.
+/// What the tablet asks of a record that is whole.
+fn record_suits(
+    totals: &Totals,
+    entry: &IndexEntry,
+    left: u32,
+    last: &[u8],
+    rec: &RecView<'_>,
+) -> bool
+    requires { 8 ≤ length rec.now.key }
+    ensures { result ≡ suits totals.now entry.now left last.now rec.now }
+{
+    totals.has_number(rec.seq()) && key_suits(totals, entry, left, last, rec.key())
+}
+
+/// The record that the bytes begin with, asked field by field: its fault is the first one.
 #[tactic(auto, unfolding(crate::specs::Reading::own_record_at))]
-pub fn own_record_of<'a>(
+fn first_fault_of<'a>(
     totals: &Totals,
     entry: &IndexEntry,
     left: u32,
@@ -99,4 +112,27 @@ pub fn own_record_of<'a>(
         at,
     )?;
     record_of(at, last, bytes)
+}
+
+/// The record that the bytes begin with, at offset `at` of its block: so many are left behind it in the block, and `last`
+/// is the key before, or empty. Its fault is the first one, be it the block's or the tablet's.
+pub fn own_record_of<'a>(
+    totals: &Totals,
+    entry: &IndexEntry,
+    left: u32,
+    at: u64,
+    last: &[u8],
+    bytes: &'a [u8],
+) -> Result<(RecView<'a>, &'a [u8]), Fault>
+    requires { at ≤ 65536 }
+    ensures exact { Reads (λ x. (x.0, x.1.now)) result (own_record_at totals.now entry.now left at last.now bytes.now) }
+    ensures len { IfOk result (λ x. stored_len x.0 + length x.1.now ≡ length bytes.now) }
+    ensures within { IfErr result (λ fault. fault.at ≤ at + length bytes.now) }
+{
+    if let Ok((rec, rest)) = record_of(at, last, bytes)
+        && record_suits(totals, entry, left, last, &rec)
+    {
+        return Ok((rec, rest));
+    }
+    first_fault_of(totals, entry, left, at, last, bytes)
 }
