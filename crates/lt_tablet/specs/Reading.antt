@@ -91,10 +91,6 @@ is_within low high n = nat_le low n && nat_le n high
 abbrev pub suits_key : Totals → Entry → ℕ → List ℕ → List ℕ → Bool
 suits_key t e left last key = is_within t.low t.high (time_of key) && ((nat_lt 0 (length last) || pointwise nat_eq key e.first) && (nat_lt 0 left || pointwise nat_eq key e.last))
 
--- what the tablet asks of a record that is whole
-abbrev pub suits : Totals → Entry → ℕ → List ℕ → Record → Bool
-suits t e left last r = is_within t.first t.last r.seq && suits_key t e left last r.key
-
 -- The bytes of a record begin with its key's length, and have its number from 8 on and its key from 20 on. What is not
 -- whole isn't asked of here, and is found later.
 abbrev pub suits_bytes : Totals → Entry → ℕ → List ℕ → ℕ → List ℕ → Bool
@@ -108,6 +104,15 @@ own_record_at t e left at last bytes = do
   n ← asked is_key_len at (number_at w32 at bytes)
   suited ← holds (suits_bytes t e left last n.0 bytes) at
   record_at at last bytes
+
+-- what was seen of a record that was read of so many bytes: its key, its timestamp and number, and the bytes after it
+pub record Sees (read : Result (Record × List ℕ) ℕ) (size : ℕ) (key : List ℕ) (ts seq : ℕ) (rest : List ℕ) : Type 0 where
+  pub rec : Record
+  pub read_is : read ≡ Ok (rec, rest)
+  pub key_is : rec.key ≡ key
+  pub ts_is : rec.ts ≡ ts
+  pub seq_is : rec.seq ≡ seq
+  pub len : stored_len rec + length rest ≡ size
 
 unfoldable pub own_records_at : Totals → Entry → (n at : ℕ) → (last bytes : List ℕ) → Result (List Record × List ℕ) ℕ
 own_records_at t e zero at last bytes = Ok ([], bytes)
