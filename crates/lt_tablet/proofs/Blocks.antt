@@ -1,5 +1,5 @@
 -- Blocks one after the other, with their entries.
-use Rattle.std.proofs.Common.{◌≡◌, ◌⊎◌, ℕ, zero, suc, ◌+◌, ◌-◌, ◌*◌, ◌^◌, ◌<◌, ◌≤◌, Bool, true, false, cond, eqb, ltb, leb, ◌&&◌, ◌||◌, List, [], ◌∷◌, ◌++◌, length, take, drop, Result, Ok, Err, refl, sym, ap, subst, ◌∙◌, append_assoc, arith, inl, inr}
+use Rattle.std.proofs.Common.{◌≡◌, ◌⊎◌, ℕ, suc, ◌+◌, ◌-◌, ◌^◌, ◌<◌, ◌≤◌, true, ltb, ◌&&◌, ◌||◌, List, [], ◌∷◌, ◌++◌, length, take, drop, Result, Ok, Err, refl, sym, ap, subst, ◌∙◌, append_assoc, arith, inl, inr}
 use Rattle.std.specs.Prelude.{nat_eq}
 use Rattle.std.specs.List.{flat_map, AllByRecursion}
 use Rattle.std.specs.Cmp.Lexicographic.{pointwise}
@@ -14,9 +14,9 @@ use Rattle.lt_block.specs.Reading.{◌>>=◌}
 use Rattle.lt_block.proofs.Fields.{IsBytes, IsBytes-take, IsBytes-drop, bind_ok, ok_is}
 use Rattle.lt_block.proofs.Records.{spelled_len}
 use Rattle.lt_block.proofs.Blocks.{time_is, all_len}
-use Rattle.lt_tablet.specs.Spelling.{Entry, Totals, first_key, entry_of, entries_of, end_of, blocks_spelled, totals_of}
+use Rattle.lt_tablet.specs.Spelling.{Entry, Totals, first_key, entry_of, entries_of, end_of, blocks_spelled}
 use Rattle.lt_tablet.specs.Reading.{is_within, suits_key, own_block_at, moved, blocks_at}
-use Rattle.lt_tablet.proofs.Asked.{done, same_bytes, bytes_same_by}
+use Rattle.lt_tablet.proofs.Asked.{same_bytes, bytes_same_by}
 use Rattle.lt_tablet.specs.Entries.{IsKey, IsEntry, IsEntries}
 use Rattle.lt_tablet.proofs.IndexText.{AreSmall}
 use Rattle.lt_tablet.proofs.Own.{suits, AllSuit, own_block_takes, own_block_again}

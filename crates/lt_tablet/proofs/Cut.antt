@@ -1,22 +1,22 @@
 -- A file that is being written, step by step.
-use Rattle.std.proofs.Common.{◌≡◌, ◌⊎◌, ℕ, zero, suc, ◌+◌, ◌-◌, ◌^◌, ◌<◌, ◌≤◌, Bool, true, false, cond, eqb, List, [], ◌∷◌, ◌++◌, length, drop, Result, Ok, Err, refl, sym, ap, subst, ◌∙◌, append_assoc, arith, inl, inr}
+use Rattle.std.proofs.Common.{◌≡◌, ℕ, ◌+◌, ◌^◌, ◌<◌, ◌≤◌, Bool, true, false, cond, eqb, List, [], ◌∷◌, ◌++◌, length, Result, Ok, Err, refl, sym, ap, subst, ◌∙◌, append_assoc, arith}
 use Rattle.std.specs.Prelude.{Option, Some, None, fold, min}
 use Rattle.std.proofs.lemmas.Bool.{ne_eqb}
 use Rattle.std.specs.List.{flat_map, AllByRecursion}
 use Rattle.std.proofs.lemmas.List.{append-nil, length-append}
 use Rattle.lt_rec.specs.Bytes.{is_less}
 use Rattle.lt_rec.specs.Periods.{Stretch, InPeriod}
-use Rattle.lt_rec.specs.Record.{Record, IsRecord, stored_len}
+use Rattle.lt_rec.specs.Record.{Record, IsRecord}
 use Rattle.lt_rec.specs.Records.{joined}
 use Rattle.lt_rec.specs.declared.listed.Listed.{Listed}
 use Rattle.lt_bloom.specs.Filter.{filter_bytes}
-use Rattle.lt_block.specs.Spelling.{spelled, spelling, Rises, IsBlock, last_key}
+use Rattle.lt_block.specs.Spelling.{spelling, Rises, IsBlock, last_key}
 use Rattle.lt_tablet.specs.declared.errors.WriteError.{WriteError}
-use Rattle.lt_tablet.specs.Spelling.{Entry, Totals, Parts, IsTablet, header, first_key, entry_of, entries_of, end_of, entry_spelled, blocks_spelled, index_spelled, hashes_from, filter_of, footer_spelled, parts_of, totals_of, file_of}
+use Rattle.lt_tablet.specs.Spelling.{Entry, Totals, Parts, IsTablet, header, first_key, entry_of, entries_of, end_of, entry_spelled, blocks_spelled, index_spelled, filter_of, footer_spelled, parts_of, totals_of, file_of}
 use Rattle.lt_tablet.specs.Entries.{IsEntries}
 use Rattle.lt_tablet.specs.Reading.{file_at}
 use Rattle.lt_tablet.specs.Surveying.{Found, found_in, last_of}
-use Rattle.lt_tablet.specs.Loaded.{Loaded, IsTold, IsLoaded, listed_totals, blocks_in, records_in, ok_or_no_blocks}
+use Rattle.lt_tablet.specs.Loaded.{Loaded, IsLoaded, listed_totals, ok_or_no_blocks}
 use Rattle.lt_tablet.specs.Writing.{Writing, IsCut, Keeps, Filled, Wrote, IsListing, HasRecords}
 use Rattle.lt_tablet.proofs.Blocks.{length_entries, end_of_blocks, entries_are, last_of_some}
 use Rattle.lt_tablet.proofs.Sums.{all_join, rises_join, all_of, least_below, greatest_below, greatest_high}

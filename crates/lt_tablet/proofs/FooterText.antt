@@ -1,5 +1,5 @@
 -- What is read as a footer is spelled so, and what is spelled so is read.
-use Rattle.std.proofs.Common.{◌≡◌, ℕ, ◌+◌, ◌-◌, ◌^◌, ◌<◌, ◌≤◌, Bool, true, false, cond, eqb, ltb, leb, ◌&&◌, List, [], ◌∷◌, ◌++◌, length, Result, Ok, Err, refl, sym, ap, subst, ◌∙◌, append_assoc, arith}
+use Rattle.std.proofs.Common.{◌≡◌, ℕ, ◌+◌, ◌-◌, ◌^◌, ◌<◌, Bool, true, eqb, ltb, leb, ◌&&◌, List, ◌++◌, Result, Ok, refl, sym, ap, subst, ◌∙◌, arith}
 use Rattle.std.specs.Prelude.{nat_eq}
 use Rattle.std.specs.Cmp.Lexicographic.{pointwise}
 use Rattle.std.specs.Int.{w64, to_be_bytes}
@@ -9,7 +9,7 @@ use Rattle.lt_block.proofs.Fields.{IsBytes, bind_ok, ok_is, Takes, Takes-then, w
 use Rattle.lt_tablet.specs.Spelling.{Totals, Parts, mark, told, numbers, footer_spelled}
 use Rattle.lt_tablet.specs.Reading.{asked, holds, numbers_at, footer_at}
 use Rattle.lt_tablet.specs.Phases.{Lie}
-use Rattle.lt_tablet.proofs.Asked.{done, asked_ok, asked_again, holds_ok, holds_again, same_bytes, bytes_same, numbers_take, Short, numbers_again}
+use Rattle.lt_tablet.proofs.Asked.{asked_ok, asked_again, holds_ok, same_bytes, numbers_take, Short, numbers_again}
 
 -- ---- a number with a test
 

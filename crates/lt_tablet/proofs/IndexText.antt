@@ -1,13 +1,12 @@
 -- What is read as an index is spelled so, and what is spelled so is read.
-use Rattle.std.proofs.Common.{◌≡◌, ℕ, zero, suc, ◌+◌, ◌-◌, ◌^◌, ◌<◌, ◌≤◌, Bool, true, false, cond, not, eqb, ltb, leb, ◌&&◌, ◌||◌, List, [], ◌∷◌, ◌++◌, length, Result, Ok, Err, refl, sym, ap, subst, ◌∙◌, append_assoc, arith, inl, inr}
+use Rattle.std.proofs.Common.{◌≡◌, ℕ, zero, suc, ◌+◌, ◌^◌, ◌<◌, Bool, true, not, eqb, ltb, leb, ◌&&◌, ◌||◌, List, [], ◌∷◌, ◌++◌, length, Result, Ok, refl, sym, ap, subst, ◌∙◌, append_assoc, arith, inl, inr}
 use Rattle.std.specs.Prelude.{nat_eq}
 use Rattle.std.specs.List.{flat_map}
 use Rattle.std.specs.Int.{w32, w64, to_be_bytes}
-use Rattle.std.proofs.lemmas.Bool.{ltb-true, leb-true, lt-ltb, le-ltb, le-leb, eqb-true, eq-eqb, and_parts, and_from, or_cases, or_left, or_right, not-true, not_from_false}
-use Rattle.std.proofs.lemmas.List.{length-append}
+use Rattle.std.proofs.lemmas.Bool.{ltb-true, leb-true, lt-ltb, le-leb, eqb-true, eq-eqb, and_parts, and_from, or_cases, or_left, or_right, not-true, not_from_false}
 use Rattle.lt_rec.specs.Bytes.{is_less}
 use Rattle.lt_block.specs.Reading.{◌>>=◌, number_at, bytes_at, is_key_len}
-use Rattle.lt_block.proofs.Fields.{IsBytes, bind_ok, ok_is, Takes, Takes-then, wide32, wide64, number_takes, number_again, bytes_take, bytes_again}
+use Rattle.lt_block.proofs.Fields.{IsBytes, bind_ok, ok_is, Takes, Takes-then, wide32, number_takes, number_again, bytes_take, bytes_again}
 use Rattle.lt_tablet.specs.Spelling.{Entry, key_spelled, entry_spelled, end_of}
 use Rattle.lt_tablet.specs.Entries.{IsKey, IsEntry, IsEntries}
 use Rattle.lt_tablet.specs.Reading.{asked, key_at, is_len, entry_at, entry_len, entries_at}

@@ -1,21 +1,20 @@
 -- What is read of a block in its tablet is what the block alone is read as, and meets what the tablet asks.
-use Rattle.std.proofs.Common.{◌≡◌, ℕ, zero, suc, ◌+◌, ◌-◌, ◌^◌, ◌<◌, ◌≤◌, Bool, true, false, cond, eqb, ltb, leb, ◌&&◌, ◌||◌, List, [], ◌∷◌, ◌++◌, length, take, drop, Result, Ok, Err, refl, sym, ap, subst, ◌∙◌, append_assoc, arith, inl, inr}
+use Rattle.std.proofs.Common.{◌≡◌, ℕ, zero, suc, ◌+◌, ◌-◌, ◌^◌, ◌<◌, ◌≤◌, Bool, true, false, cond, eqb, ltb, leb, ◌&&◌, ◌||◌, List, [], ◌∷◌, ◌++◌, length, take, drop, Result, Ok, Err, refl, sym, ap, subst, ◌∙◌, append_assoc, arith}
 use Rattle.std.specs.Prelude.{nat_eq}
 use Rattle.std.specs.List.{flat_map, AllByRecursion}
-use Rattle.std.specs.Cmp.Lexicographic.{pointwise}
 use Rattle.std.specs.Int.{w32, w64, to_be_bytes, from_be_bytes}
-use Rattle.std.proofs.lemmas.Bool.{ltb-true, leb-true, lt-ltb, le-ltb, le-leb, eqb-true, eq-eqb, and_parts, and_from, or_cases, or_left, or_right}
+use Rattle.std.proofs.lemmas.Bool.{lt-ltb, le-ltb, le-leb, eqb-true, eq-eqb, and_from}
 use Rattle.std.proofs.lemmas.List.{length-append, take_at, append-nil}
 use Rattle.lt_rec.specs.Bytes.{is_less}
-use Rattle.lt_rec.specs.Record.{Record, IsRecord, stored_len, time_of}
-use Rattle.lt_block.specs.Spelling.{spelled, spelling, Rises, IsBlock, last_key}
+use Rattle.lt_rec.specs.Record.{Record, IsRecord, stored_len}
+use Rattle.lt_block.specs.Spelling.{spelled, spelling, Rises, IsBlock}
 use Rattle.lt_block.specs.Reading.{◌>>=◌, number_at, is_key_len, record_at, records_at, count_at, ended, block_at}
-use Rattle.lt_block.proofs.Fields.{IsBytes, bind_ok, ok_is, Takes, wide32, wide64, number_takes, number_again}
-use Rattle.lt_block.proofs.Records.{spelled_len, record_takes, record_again, records_take, AllFound}
-use Rattle.lt_block.proofs.Blocks.{block_takes, time_is}
-use Rattle.lt_tablet.specs.Spelling.{Entry, Totals, first_key}
+use Rattle.lt_block.proofs.Fields.{IsBytes, bind_ok, ok_is, wide32, wide64, number_takes, number_again}
+use Rattle.lt_block.proofs.Records.{spelled_len, record_takes, record_again, records_take}
+use Rattle.lt_block.proofs.Blocks.{block_takes}
+use Rattle.lt_tablet.specs.Spelling.{Entry, Totals}
 use Rattle.lt_tablet.specs.Reading.{asked, holds, is_within, suits_key, suits_bytes, own_record_at, own_records_at, own_block_at}
-use Rattle.lt_tablet.proofs.Asked.{done, asked_ok, asked_again, holds_ok, holds_again, same_bytes, bytes_same_by}
+use Rattle.lt_tablet.proofs.Asked.{asked_ok, asked_again, holds_ok, holds_again}
 
 -- what the tablet asks of a record that `left` others follow in its block
 abbrev pub suits : Totals → Entry → ℕ → List ℕ → Record → Bool
@@ -59,6 +58,12 @@ own_record_again t e left at last r rest h above suited =
     ap (λ (q : Result (ℕ × List ℕ) ℕ). q >>= from_len t e left at last (spelled r ++ rest)) (asked_again is_key_len at (number_at w32 at (spelled r ++ rest)) (length r.key, n.0) n.1 test)
     ∙ (ap (λ (q : Result (Unit {0}) ℕ). q >>= λ _. record_at at last (spelled r ++ rest)) (holds_again (suits_bytes t e left last (length r.key) (spelled r ++ rest)) at (suits_spelled t e left last r rest h ∙ suited))
     ∙ record_again at last r rest h above)
+
+-- a record that was read, and that suits
+pub own_record_given : (t : Totals) (e : Entry) (left at : ℕ) (last bytes : List ℕ) (x : Record × List ℕ) → IsBytes bytes → record_at at last bytes ≡ Ok x → suits t e left last x.0 ≡ true → own_record_at t e left at last bytes ≡ Ok x
+own_record_given t e left at last bytes x fits q suited =
+    let found = record_takes at last bytes x fits q in
+    ap (own_record_at t e left at last) found.takes.parts ∙ own_record_again t e left at last x.0 x.1 found.lawful found.above suited
 
 -- ---- records one after the other
 

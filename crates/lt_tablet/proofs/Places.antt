@@ -1,18 +1,17 @@
 -- Blocks by their place in the index.
-use Rattle.std.proofs.Common.{◌≡◌, ℕ, zero, suc, ◌+◌, ◌-◌, ◌<◌, ◌≤◌, Bool, true, false, List, [], ◌∷◌, ◌++◌, length, get_or, take, drop, Result, Ok, Err, refl, sym, ap, subst, ◌∙◌, arith, inl, inr}
+use Rattle.std.proofs.Common.{◌≡◌, ℕ, zero, suc, ◌+◌, ◌<◌, Bool, true, List, [], ◌∷◌, ◌++◌, length, get_or, drop, Result, Ok, Err, refl, sym, ap, subst, ◌∙◌, arith}
 use Rattle.std.specs.Prelude.{slice_get, Option, Some, None, IfOk, IfErr, OnOk}
-use Rattle.std.proofs.lemmas.List.{drop-drop}
 use Rattle.lt_rec.specs.Record.{Record}
 use Rattle.lt_rec.specs.Records.{joined}
 use Rattle.lt_block.specs.declared.fault.BlockError.{BlockError}
 use Rattle.lt_block.specs.declared.fault.BlockError.TheVariants as block_errors
-use Rattle.lt_block.specs.Reading.{◌>>=◌, Gives, Fails}
+use Rattle.lt_block.specs.Reading.{Gives}
 use Rattle.lt_block.proofs.Fields.{bind_ok, ok_is}
 use Rattle.lt_tablet.specs.declared.errors.ReadError.{ReadError}
 use Rattle.lt_tablet.specs.declared.errors.ReadError.TheVariants as read_errors
 use Rattle.lt_tablet.specs.Spelling.{Entry, Totals, end_of, entries_of, index_spelled, filter_of, footer_spelled, parts_of, totals_of, file_of, IsTablet}
 use Rattle.lt_tablet.specs.Entries.{IsEntries}
-use Rattle.lt_tablet.specs.Reading.{own_block_at, moved, blocks_at, file_at}
+use Rattle.lt_tablet.specs.Reading.{moved, blocks_at, file_at}
 use Rattle.lt_tablet.specs.Surveying.{IsWithin}
 use Rattle.std.proofs.lemmas.Option.{slice_get_read}
 use Rattle.lt_tablet.specs.Loaded.{Loaded, IsTold, IsLoaded, listed_totals, blocks_in, ok_or_no_blocks}

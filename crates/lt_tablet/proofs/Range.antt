@@ -1,11 +1,11 @@
 -- Which blocks of a tablet may have records of a box.
-use Rattle.std.proofs.Common.{◌≡◌, ◌⊎◌, ℕ, zero, suc, ◌+◌, ◌-◌, ◌<◌, ◌≤◌, Bool, true, false, cond, not, ltb, leb, ◌&&◌, List, [], ◌∷◌, ◌++◌, length, get_or, Ordering, Less, Equal, Greater, refl, sym, ap, subst, ◌∙◌, arith, inl, inr}
-use Rattle.std.specs.Prelude.{slice_get, Option, Some, None, All, IsTrue, ◌↔◌, min, nat_le}
+use Rattle.std.proofs.Common.{◌≡◌, ◌⊎◌, ℕ, zero, suc, ◌+◌, ◌<◌, ◌≤◌, Bool, true, false, not, leb, ◌&&◌, List, [], ◌∷◌, length, get_or, Ordering, Less, Equal, Greater, refl, sym, ap, subst, ◌∙◌, arith, inl, inr}
+use Rattle.std.specs.Prelude.{slice_get, Option, Some, None, All, min}
 use Rattle.std.specs.List.{AllByRecursion}
 use Rattle.std.specs.List.Sorted.{IsPartitionedBy, IsPartitionPoint}
 use Rattle.std.specs.Ordering.{is_lt, is_eq, nat_cmp, ordering_reverse}
 use Rattle.std.specs.Cmp.Lexicographic.{slice_cmp, nat_list_cmp_total}
-use Rattle.std.proofs.lemmas.Bool.{cases_Bool, cases_lt, leb-true, le-leb, lt-ltb, and_parts, and_from}
+use Rattle.std.proofs.lemmas.Bool.{cases_Bool, cases_lt, leb-true, and_parts, and_from}
 use Rattle.std.proofs.lemmas.Option.{get_or_from_slice_get, slice_get_within}
 use Rattle.std.proofs.lemmas.Map.Text.{is_eq-slice_cmp}
 use Rattle.lt_rec.specs.Bytes.{is_less}
@@ -16,10 +16,9 @@ use Rattle.lt_rec.specs.declared.cut.Cut.{Cut}
 use Rattle.lt_rec.specs.declared.raw_box.RawBox.{RawBox}
 use Rattle.lt_block.specs.Spelling.{spelling, Rises, last_key, IsBlock}
 use Rattle.lt_block.proofs.Cuts.{down}
-use Rattle.lt_tablet.specs.Spelling.{Entry, Totals, first_key, entries_of, totals_of, end_of}
+use Rattle.lt_tablet.specs.Spelling.{Entry, Totals, first_key, entries_of}
 use Rattle.lt_tablet.specs.Entries.{IsEntries}
-use Rattle.lt_tablet.specs.Reading.{is_within}
-use Rattle.lt_tablet.specs.Loaded.{Loaded, IsTold, IsLoaded, blocks_in, listed_totals, times_meet, may_have, IsIndexRange}
+use Rattle.lt_tablet.specs.Loaded.{Loaded, IsTold, blocks_in, listed_totals, times_meet, may_have, IsIndexRange}
 use Rattle.lt_tablet.proofs.Asked.{same_bytes}
 use Rattle.lt_tablet.proofs.Sums.{Within, all_split, all_within, less_not, last_not_below}
 

@@ -1,29 +1,27 @@
 -- The two laws of tablet files.
-use Rattle.std.proofs.Common.{◌≡◌, ℕ, zero, suc, ◌+◌, ◌-◌, ◌*◌, ◌/◌, ◌^◌, ◌<◌, ◌≤◌, Bool, true, false, cond, eqb, ltb, leb, ◌&&◌, List, [], ◌∷◌, ◌++◌, length, take, drop, Result, Ok, Err, refl, sym, ap, subst, ◌∙◌, append_assoc, arith, inl, inr}
-use Rattle.std.specs.Prelude.{nat_eq, min, Option, Some, None}
+use Rattle.std.proofs.Common.{◌≡◌, ℕ, ◌+◌, ◌-◌, ◌^◌, ◌<◌, ◌≤◌, Bool, true, false, cond, eqb, ltb, List, [], ◌∷◌, ◌++◌, length, take, drop, Result, Ok, Err, refl, sym, ap, subst, ◌∙◌, arith}
+use Rattle.std.specs.Prelude.{nat_eq, min, None}
 use Rattle.std.specs.List.{flat_map, AllByRecursion}
 use Rattle.std.specs.Cmp.Lexicographic.{pointwise}
-use Rattle.std.specs.Int.{w32, w64, to_be_bytes}
-use Rattle.std.proofs.lemmas.Bool.{ltb-true, ltb-false, lt-ltb, le-ltb, eqb-true, eq-eqb, cases_Bool}
+use Rattle.std.specs.Int.{w32, to_be_bytes}
+use Rattle.std.proofs.lemmas.Bool.{ltb-false, le-ltb, eqb-true, eq-eqb}
 use Rattle.std.proofs.lemmas.List.{append-nil, length-append, length-take, length-drop, take_at, drop_at, take-append-drop, drop-drop, nil_from_length}
-use Rattle.lt_rec.specs.Bytes.{is_less}
-use Rattle.lt_rec.specs.Record.{Record, IsRecord, stem_of}
+use Rattle.lt_rec.specs.Record.{Record, IsRecord}
 use Rattle.lt_rec.specs.Records.{joined}
-use Rattle.lt_bloom.specs.Hash.{hash_of}
 use Rattle.lt_bloom.proofs.Filters.{filter_len}
-use Rattle.lt_block.specs.Spelling.{spelled, spelling, Rises, IsBlock, last_key}
+use Rattle.lt_block.specs.Spelling.{spelled, spelling, IsBlock}
 use Rattle.lt_block.specs.Reading.{◌>>=◌, ended}
 use Rattle.lt_block.proofs.Fields.{IsBytes, IsBytes-take, IsBytes-drop, bind_ok, ok_is}
 use Rattle.lt_block.proofs.Blocks.{all_len}
-use Rattle.lt_tablet.specs.Spelling.{Entry, Totals, Parts, IsTablet, header, mark, told, numbers, entries_of, key_spelled, entry_spelled, end_of, blocks_spelled, index_spelled, hashes_from, filter_of, footer_spelled, parts_of, totals_of, file_of}
+use Rattle.lt_tablet.specs.Spelling.{Entry, Totals, Parts, IsTablet, header, told, entries_of, key_spelled, entry_spelled, end_of, blocks_spelled, index_spelled, hashes_from, filter_of, footer_spelled, parts_of, totals_of, file_of}
 use Rattle.lt_tablet.specs.Reading.{holds, footer_place, footer_at, header_at, entries_at, index_at, blocks_at, totals_at, filter_at, same_at, between, file_at}
 use Rattle.lt_tablet.proofs.Asked.{done, holds_ok, holds_again, same_bytes, bytes_same, same_at_ok, same_at_again, Short}
 use Rattle.lt_tablet.proofs.FooterText.{FooterFound, footer_takes, footer_again}
 use Rattle.lt_tablet.specs.Entries.{IsEntries}
 use Rattle.lt_tablet.specs.Phases.{Lie}
 use Rattle.lt_tablet.proofs.IndexText.{EntriesFound, AreSmall, entries_take, entries_again, ends}
-use Rattle.lt_tablet.proofs.Blocks.{BlocksFound, blocks_take, blocks_again, length_entries, end_of_blocks, block_len, entries_are, entries_small}
-use Rattle.lt_tablet.proofs.Sums.{Within, all_lawful, all_of, all_within, greatest_below, least_below}
+use Rattle.lt_tablet.proofs.Blocks.{BlocksFound, blocks_take, blocks_again, length_entries, block_len, entries_are, entries_small}
+use Rattle.lt_tablet.proofs.Sums.{all_lawful, all_of, all_within, greatest_below, least_below}
 
 -- ---- the checks, one after the other
 

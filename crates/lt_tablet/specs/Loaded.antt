@@ -1,5 +1,5 @@
 -- A tablet as it is known: its listing, its index, its filter and, where the device tells them, the bytes of its file.
-use Rattle.std.specs.Prelude.{◌≡◌, ◌≤◌, ◌<◌, ◌+◌, ◌^◌, ℕ, Bool, true, ◌&&◌, nat_le, ◌↔◌, IsTrue, List, [], length, Result, Ok, Err, slice_get, Some}
+use Rattle.std.specs.Prelude.{◌≡◌, ◌≤◌, ◌<◌, ◌^◌, ℕ, Bool, true, ◌&&◌, nat_le, ◌↔◌, IsTrue, List, [], length, Result, Ok, Err, slice_get, Some}
 use Rattle.lt_rec.specs.declared.listed.Listed.{Listed}
 use Rattle.lt_rec.specs.declared.raw_box.RawBox.{RawBox}
 use Rattle.lt_rec.specs.Boxes.{meets_lo, meets_hi}

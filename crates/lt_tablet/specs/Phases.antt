@@ -1,5 +1,5 @@
 -- The checks of a file, put together as they are made.
-use Rattle.std.specs.Prelude.{◌≡◌, ℕ, ◌+◌, ◌-◌, ◌^◌, ◌<◌, ◌≤◌, List, length, drop, Result, Ok, Err, slice_index}
+use Rattle.std.specs.Prelude.{◌≡◌, ℕ, ◌-◌, ◌<◌, ◌≤◌, List, length, drop, Result, Ok, slice_index}
 use Rattle.lt_rec.specs.Records.{joined}
 use Rattle.lt_bloom.specs.Filter.{filter_bytes}
 use Rattle.lt_block.specs.Reading.{◌>>=◌}

@@ -105,6 +105,15 @@ own_record_at t e left at last bytes = do
   suited ← holds (suits_bytes t e left last n.0 bytes) at
   record_at at last bytes
 
+-- what was seen of a record that was read of so many bytes: its key, its timestamp and number, and the bytes after it
+pub record Sees (read : Result (Record × List ℕ) ℕ) (size : ℕ) (key : List ℕ) (ts seq : ℕ) (rest : List ℕ) : Type 0 where
+  pub rec : Record
+  pub read_is : read ≡ Ok (rec, rest)
+  pub key_is : rec.key ≡ key
+  pub ts_is : rec.ts ≡ ts
+  pub seq_is : rec.seq ≡ seq
+  pub len : stored_len rec + length rest ≡ size
+
 unfoldable pub own_records_at : Totals → Entry → (n at : ℕ) → (last bytes : List ℕ) → Result (List Record × List ℕ) ℕ
 own_records_at t e zero at last bytes = Ok ([], bytes)
 own_records_at t e (suc n) at last bytes = do

@@ -1,12 +1,12 @@
 -- A tablet file that is being written, and the records that were written to it.
-use Rattle.std.specs.Prelude.{◌≡◌, ℕ, ◌+◌, ◌<◌, ◌≤◌, Bool, true, List, [], ◌∷◌, ◌++◌, length}
+use Rattle.std.specs.Prelude.{◌≡◌, ℕ, ◌+◌, ◌<◌, Bool, true, List, [], ◌∷◌, ◌++◌, length}
 use Rattle.std.specs.List.{AllByRecursion}
 use Rattle.lt_rec.specs.Periods.{Stretch, InPeriod}
 use Rattle.lt_rec.specs.Record.{Record, IsRecord}
 use Rattle.lt_rec.specs.Records.{joined}
 use Rattle.lt_rec.specs.declared.listed.Listed.{Listed}
 use Rattle.lt_block.specs.Spelling.{IsBlock, Rises, last_key}
-use Rattle.lt_tablet.specs.Spelling.{Entry, Totals, header, entries_of, blocks_spelled, totals_of, first_key}
+use Rattle.lt_tablet.specs.Spelling.{Entry, header, entries_of, blocks_spelled, totals_of, first_key}
 use Rattle.lt_tablet.specs.Surveying.{Found, found_in}
 use Rattle.lt_tablet.specs.Loaded.{Loaded, listed_totals, records_in}
 

@@ -1,14 +1,26 @@
 //! The records of a block in its tablet: those of a block, with what the tablet asks of each.
-ghost use Rattle.std.specs.Prelude.{◌≡◌, ◌≤◌, ◌+◌, ◌||◌, nat_lt, take, drop, length, IfOk, IfErr};
+ghost use Rattle.std.specs.Prelude.{◌≡◌, ◌≤◌, ◌+◌, ◌^◌, ◌&&◌, ◌||◌, nat_le, nat_lt, take, drop, length, Err, IfOk, IfErr};
 ghost use Rattle.std.specs.Int.{w64, from_be_bytes};
 ghost use Rattle.lt_rec.specs.Record.{stem_of, time_of, stored_len};
-ghost use Rattle.lt_block.specs.Reading.{Reads};
-ghost use Rattle.lt_tablet.specs.Reading.{is_within, suits_key, suits_bytes, own_record_at};
+ghost use Rattle.lt_rec.specs.Bytes.{is_less};
+ghost use Rattle.lt_block.specs.Reading.{Reads, is_key_len, record_at};
+ghost use Rattle.lt_tablet.specs.Reading.{is_within, suits_key, suits_bytes, own_record_at, Sees};
 
 use crate::footer::holds;
 use crate::index::{IndexEntry, is_key_length};
 use crate::totals::Totals;
-use lt_block::{Fault, RecView, record_of, u32_at};
+use lt_block::{Fault, RecView, bytes_of, record_of, u32_at, u64_at};
+use lt_rec::Rec;
+use std::cmp::Ordering;
+
+/// What is asked of a record when its block is checked: its key, its timestamp and number, and the bytes after it.
+#[derive(Drop)]
+pub struct Seen<'a> {
+    pub key: &'a [u8],
+    pub ts: u64,
+    pub seq: u64,
+    pub rest: &'a [u8],
+}
 
 /// A key without its timestamp.
 pub fn stem_of(key: &[u8]) -> &[u8]
@@ -76,10 +88,47 @@ fn bytes_suit(
     key_suits(totals, entry, left, last, key)
 }
 
-/// The record that the bytes begin with, at offset `at` of its block: so many are left behind it in the block, and `last`
-/// is the key before, or empty. Its fault is the first one, be it the block's or the tablet's.
+/// What the tablet asks of a record that is whole, by its key and its number.
+fn seen_suits(totals: &Totals, entry: &IndexEntry, left: u32, last: &[u8], seen: &Seen<'_>) -> bool
+    requires { 8 ≤ length seen.now.key.now }
+    ensures { result ≡ (is_within totals.now.first totals.now.last seen.now.seq && suits_key totals.now entry.now left last.now seen.now.key.now) }
+{
+    totals.has_number(seen.seq) && key_suits(totals, entry, left, last, seen.key)
+}
+
+/// A record's numbers are within their bounds: how long its key and its body are, and its own.
+fn are_fit(key_len: u32, body_len: u32, seq: u64) -> bool
+    ensures { result ≡ (is_key_len key_len && (nat_le body_len 60000 && nat_lt seq (2 ^ 62))) }
+{
+    is_key_length(key_len) && (body_len <= Rec::LONGEST_BODY as u32 && seq < Rec::SEQ_END)
+}
+
+fn rises(last: &[u8], key: &[u8]) -> bool
+    ensures { result ≡ is_less last.now key.now }
+{
+    last.cmp(key) == Ordering::Less
+}
+
+/// The record that the bytes begin with, where it is one of a block; a fault tells nothing of where it lies.
+fn seen_of<'a>(at: u64, last: &[u8], bytes: &'a [u8]) -> Result<Seen<'a>, Fault>
+    requires { at ≤ 65536 }
+    ensures { IfOk result (λ x. Sees (record_at at last.now bytes.now) (length bytes.now) x.key.now x.ts x.seq x.rest.now) }
+{
+    let (key_len, rest) = u32_at(at, bytes)?;
+    let (body_len, rest) = u32_at(at + 4, rest)?;
+    let (seq, rest) = u64_at(at + 8, rest)?;
+    let (_ver, rest) = u32_at(at + 16, rest)?;
+    let (key, rest) = bytes_of(key_len as usize, at + 20, rest)?;
+    let (_body, rest) = bytes_of(body_len as usize, at + 20 + key_len as u64, rest)?;
+    holds(are_fit(key_len, body_len, seq), at)?;
+    holds(rises(last, key), at)?;
+    let ts = time_of(key);
+    Ok(Seen { key, ts, seq, rest })
+}
+
+/// The record that the bytes begin with, asked field by field: its fault is the first one.
 #[tactic(auto, unfolding(crate::specs::Reading::own_record_at))]
-pub fn own_record_of<'a>(
+fn first_fault_of<'a>(
     totals: &Totals,
     entry: &IndexEntry,
     left: u32,
@@ -99,4 +148,33 @@ pub fn own_record_of<'a>(
         at,
     )?;
     record_of(at, last, bytes)
+}
+
+/// The record that the bytes begin with, at offset `at` of its block: so many are left behind it in the block, and `last`
+/// is the key before, or empty. Its fault is the first one, be it the block's or the tablet's.
+pub fn own_record_of<'a>(
+    totals: &Totals,
+    entry: &IndexEntry,
+    left: u32,
+    at: u64,
+    last: &[u8],
+    bytes: &'a [u8],
+) -> Result<Seen<'a>, Fault>
+    requires { at ≤ 65536 }
+    ensures seen { IfOk result (λ x. Sees (own_record_at totals.now entry.now left at last.now bytes.now) (length bytes.now) x.key.now x.ts x.seq x.rest.now) }
+    ensures fault { IfErr result (λ fault. own_record_at totals.now entry.now left at last.now bytes.now ≡ Err fault.at) }
+    ensures within { IfErr result (λ fault. fault.at ≤ at + length bytes.now) }
+{
+    if let Ok(seen) = seen_of(at, last, bytes)
+        && seen_suits(totals, entry, left, last, &seen)
+    {
+        return Ok(seen);
+    }
+    let (rec, rest) = first_fault_of(totals, entry, left, at, last, bytes)?;
+    Ok(Seen {
+        key: rec.key(),
+        ts: rec.ts(),
+        seq: rec.seq(),
+        rest,
+    })
 }

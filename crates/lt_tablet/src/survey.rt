@@ -11,7 +11,7 @@ use crate::footer::holds;
 use crate::index::IndexEntry;
 use crate::records::{own_record_of, stem_of};
 use crate::totals::Totals;
-use lt_block::{BlockError, Fault, RecView, u32_at};
+use lt_block::{BlockError, Fault, u32_at};
 use lt_bloom::stem_hash;
 use lt_rec::NoMemory;
 use std::alloc::Global;
@@ -106,9 +106,9 @@ pub fn check_block(totals: &Totals, entry: &IndexEntry, bytes: &[u8]) -> Result<
     let mut rest = behind;
     for done in 0..count {
         let at = (bytes.len() - rest.len()) as u64;
-        let (rec, after) = own_record_of(totals, entry, count - done - 1, at, last, rest)?;
-        last = rec.key();
-        rest = after;
+        let seen = own_record_of(totals, entry, count - done - 1, at, last, rest)?;
+        last = seen.key;
+        rest = seen.rest;
     }
     holds(rest.is_empty(), (bytes.len() - rest.len()) as u64)
 }
@@ -134,11 +134,11 @@ pub fn survey_block(
     let mut rest = behind;
     for done in 0..count {
         let at = (bytes.len() - rest.len()) as u64;
-        let (rec, after) = own_record_of(totals, entry, count - done - 1, at, last, rest)?;
-        survey.add(known, rec.key(), rec.ts(), rec.seq())?;
-        last = rec.key();
+        let seen = own_record_of(totals, entry, count - done - 1, at, last, rest)?;
+        survey.add(known, seen.key, seen.ts, seen.seq)?;
+        last = seen.key;
         known = Some(last);
-        rest = after;
+        rest = seen.rest;
     }
     Ok(holds(rest.is_empty(), (bytes.len() - rest.len()) as u64)?)
 }

@@ -1,6 +1,4 @@
-use Rattle.std.proofs.Common.{◌≡◌, List, ℕ, length, drop, subst, ◌∙◌, ◌+◌, arith}
-use Rattle.lt_block.specs.Reading.{Reads}
-use Rattle.lt_tablet.specs.Spelling.{Totals}
+use Rattle.std.proofs.Common.{◌≡◌, length, drop, ◌∙◌, ◌+◌, arith}
 use Rattle.lt_tablet.specs.Reading.{footer_at}
 use Rattle.lt_tablet.specs.Loaded.{listed_totals}
 use Rattle.lt_tablet.proofs.Answering.{named_answer, all_behind}

@@ -1,4 +1,4 @@
-use Rattle.std.proofs.Common.{◌≡◌, List, ℕ, drop, take, sym, ap, ◌∙◌}
+use Rattle.std.proofs.Common.{◌≡◌, ℕ, drop, take, sym, ap, ◌∙◌}
 use Rattle.lt_tablet.specs.Spelling.{Entry, Totals}
 use Rattle.lt_tablet.specs.Reading.{own_block_at}
 use Rattle.lt_tablet.specs.Loaded.{listed_totals}

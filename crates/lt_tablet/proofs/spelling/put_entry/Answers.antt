@@ -1,4 +1,4 @@
-use Rattle.std.proofs.Common.{ℕ, List, length, ◌++◌, ap, sym, ◌∙◌}
+use Rattle.std.proofs.Common.{ℕ, List, ◌++◌, ap, ◌∙◌}
 use Rattle.std.specs.Int.{w32, w64, to_be_bytes}
 use Rattle.lt_tablet.specs.Spelling.{Entry, key_spelled, entry_spelled}
 use Rattle.lt_tablet.proofs.Spelled.{five_parts}

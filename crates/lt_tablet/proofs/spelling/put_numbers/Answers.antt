@@ -1,4 +1,4 @@
-use Rattle.std.proofs.Common.{List, ℕ, ◌++◌, get_or, ap, refl, ◌∙◌, arith}
+use Rattle.std.proofs.Common.{List, ℕ, ◌++◌, get_or, ap, ◌∙◌}
 use Rattle.std.specs.Int.{w64, to_be_bytes}
 use Rattle.std.proofs.lemmas.List.{get_or_default}
 use Rattle.lt_tablet.proofs.Spelled.{spelled_step}

@@ -1,4 +1,4 @@
-use Rattle.std.proofs.Common.{◌≡◌, ◌+◌, ◌-◌, ◌++◌, ◌∷◌, ℕ, List, [], length, ap, sym, arith}
+use Rattle.std.proofs.Common.{◌≡◌, ◌+◌, ◌-◌, ◌++◌, ◌∷◌, [], length, ap, sym, arith}
 use Rattle.std.specs.Prelude.{nat_eq}
 use Rattle.std.proofs.lemmas.Result.{err_from_is_err_and}
 use Rattle.lt_rec.specs.Record.{stored_len}
@@ -9,17 +9,18 @@ use Rattle.lt_tablet.proofs.Own.{own_block_takes}
 use Rattle.lt_tablet.proofs.Places.{on_ok}
 use Rattle.lt_tablet.proofs.survey.check_block.Goals as goal
 
-pub returns-in_err-rec-clause-exact : goal.returns-in_err-rec-clause-exact
-returns-in_err-rec-clause-exact c =
-    let p = err_from_is_err_and c.from_residual-in_err-rec.result c.from_residual-in_err-rec.ensures.1 in
-    rw (p.1, p.2) (block_stop c.loop-done.invariant.1 c.args.totals.now c.args.entry.now c.args.bytes.now c.entry.inside.count c.in_ok-count.count c.in_ok-count.behind.now c.in_ok-holds.field-0 c.loop-done.done (c.in_ok-count.count - c.loop-done.done - 1) (length c.args.bytes.now - length c.loop-done.rest.now) c.in_err-rec.field-0.0.at c.loop-done.last.now c.loop-done.rest.now (ap (λ (v : Entry). v.count) c.entry.view_is) (omega arith) c.in_ok-count.ensures.exact c.in_ok-holds.ensures.exact c.loop-done-test.true c.in_err-rec.ensures.exact c.loop-done.invariant.2)
+pub returns-in_err-seen-clause-exact : goal.returns-in_err-seen-clause-exact
+returns-in_err-seen-clause-exact c =
+    let p = err_from_is_err_and c.from_residual-in_err-seen.result c.from_residual-in_err-seen.ensures.1 in
+    rw (p.1, p.2) (block_stop c.loop-done.invariant.1 c.args.totals.now c.args.entry.now c.args.bytes.now c.entry.inside.count c.in_ok-count.count c.in_ok-count.behind.now c.in_ok-holds.field-0 c.loop-done.done (c.in_ok-count.count - c.loop-done.done - 1) (length c.args.bytes.now - length c.loop-done.rest.now) c.in_err-seen.field-0.0.at c.loop-done.last.now c.loop-done.rest.now (ap (λ (v : Entry). v.count) c.entry.view_is) (omega arith) c.in_ok-count.ensures.exact c.in_ok-holds.ensures.exact c.loop-done-test.true c.in_err-seen.ensures.fault c.loop-done.invariant.2)
 
 pub loop-done-preserved : goal.loop-done-preserved
 loop-done-preserved c =
-    let len : stored_len c.in_ok-rec.rec + length c.in_ok-rec.after.now ≡ length c.loop-done.rest.now = c.in_ok-rec.ensures.len in (
+    let s = c.in_ok-seen.ensures.seen in
+    let len : stored_len s.rec + length c.in_ok-seen.seen.rest.now ≡ length c.loop-done.rest.now = s.len in (
       omega (arith, len, c.loop-done.invariant.0),
-      c.loop-done.invariant.1 ++ c.in_ok-rec.rec ∷ [],
-      records_next c.loop-done.invariant.1 c.args.totals.now c.args.entry.now c.in_ok-count.count c.loop-done.done (c.in_ok-count.count - c.loop-done.done - 1) (length c.args.bytes.now - length c.loop-done.rest.now) (length c.args.bytes.now - length c.in_ok-rec.after.now) c.loop-done.last.now c.key-last.result.now c.loop-done.rest.now c.in_ok-rec.rec c.in_ok-rec.after.now (own_records_at c.args.totals.now c.args.entry.now c.in_ok-count.count 4 [] c.in_ok-count.behind.now) c.loop-done-test.true (omega arith) (omega (arith, len, c.loop-done.invariant.0)) c.key-last.ensures c.in_ok-rec.ensures.exact c.loop-done.invariant.2,
+      c.loop-done.invariant.1 ++ s.rec ∷ [],
+      records_next c.loop-done.invariant.1 c.args.totals.now c.args.entry.now c.in_ok-count.count c.loop-done.done (c.in_ok-count.count - c.loop-done.done - 1) (length c.args.bytes.now - length c.loop-done.rest.now) (length c.args.bytes.now - length c.in_ok-seen.seen.rest.now) c.loop-done.last.now c.in_ok-seen.seen.key.now c.loop-done.rest.now s.rec c.in_ok-seen.seen.rest.now (own_records_at c.args.totals.now c.args.entry.now c.in_ok-count.count 4 [] c.in_ok-count.behind.now) c.loop-done-test.true (omega arith) (omega (arith, len, c.loop-done.invariant.0)) (sym s.key_is) s.read_is c.loop-done.invariant.2,
     )
 
 pub returns-clause-exact : goal.returns-clause-exact

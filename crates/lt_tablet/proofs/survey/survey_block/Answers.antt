@@ -1,4 +1,4 @@
-use Rattle.std.proofs.Common.{◌≡◌, ◌≤◌, ◌+◌, ◌-◌, ◌++◌, ◌∷◌, ℕ, List, [], Err, length, ap, sym, ◌∙◌, append_assoc, arith}
+use Rattle.std.proofs.Common.{◌≡◌, ◌+◌, ◌-◌, ◌++◌, ◌∷◌, ℕ, List, [], Err, length, ap, sym, ◌∙◌, append_assoc, arith}
 use Rattle.std.specs.Prelude.{nat_eq, Some}
 use Rattle.std.proofs.lemmas.List.{append-nil}
 use Rattle.std.proofs.lemmas.Result.{err_from_is_err_and}
@@ -19,23 +19,24 @@ loop-done-init c = (
   λ recs before old. (before ∙ ap last_of (sym (append-nil recs)), old ∙ ap found_in (sym (append-nil recs))),
 )
 
-pub returns-in_err-rec-clause-fault : goal.returns-in_err-rec-clause-fault
-returns-in_err-rec-clause-fault c =
-    let p = err_from_is_err_and c.from_residual-in_err-rec.result c.from_residual-in_err-rec.ensures.1 in
-    rw (p.1, p.2) (block_stop c.loop-done.invariant.1 c.args.totals.now c.args.entry.now c.args.bytes.now c.entry.inside.count c.in_ok-count.count c.in_ok-count.behind.now c.in_ok-holds.field-0 c.loop-done.done (c.in_ok-count.count - c.loop-done.done - 1) (length c.args.bytes.now - length c.loop-done.rest.now) c.in_err-rec.field-0.0.at c.loop-done.last.now c.loop-done.rest.now (ap (λ (v : Entry). v.count) c.entry.view_is) (omega arith) c.in_ok-count.ensures.exact c.in_ok-holds.ensures.exact c.loop-done-test.true c.in_err-rec.ensures.exact c.loop-done.invariant.2)
+pub returns-in_err-seen-clause-fault : goal.returns-in_err-seen-clause-fault
+returns-in_err-seen-clause-fault c =
+    let p = err_from_is_err_and c.from_residual-in_err-seen.result c.from_residual-in_err-seen.ensures.1 in
+    rw (p.1, p.2) (block_stop c.loop-done.invariant.1 c.args.totals.now c.args.entry.now c.args.bytes.now c.entry.inside.count c.in_ok-count.count c.in_ok-count.behind.now c.in_ok-holds.field-0 c.loop-done.done (c.in_ok-count.count - c.loop-done.done - 1) (length c.args.bytes.now - length c.loop-done.rest.now) c.in_err-seen.field-0.0.at c.loop-done.last.now c.loop-done.rest.now (ap (λ (v : Entry). v.count) c.entry.view_is) (omega arith) c.in_ok-count.ensures.exact c.in_ok-holds.ensures.exact c.loop-done-test.true c.in_err-seen.ensures.fault c.loop-done.invariant.2)
 
 pub loop-done-preserved : goal.loop-done-preserved
 loop-done-preserved c =
     let front = c.loop-done.invariant.1 in
-    let rec = c.in_ok-rec.rec in
-    let len : stored_len c.in_ok-rec.rec + length c.in_ok-rec.after.now ≡ length c.loop-done.rest.now = c.in_ok-rec.ensures.len in (
+    let s = c.in_ok-seen.ensures.seen in
+    let rec = s.rec in
+    let len : stored_len s.rec + length c.in_ok-seen.seen.rest.now ≡ length c.loop-done.rest.now = s.len in (
       omega (arith, len, c.loop-done.invariant.0),
-      c.loop-done.invariant.1 ++ c.in_ok-rec.rec ∷ [],
-      records_next c.loop-done.invariant.1 c.args.totals.now c.args.entry.now c.in_ok-count.count c.loop-done.done (c.in_ok-count.count - c.loop-done.done - 1) (length c.args.bytes.now - length c.loop-done.rest.now) (length c.args.bytes.now - length c.in_ok-rec.after.now) c.loop-done.last.now c.key-last.result.now c.loop-done.rest.now c.in_ok-rec.rec c.in_ok-rec.after.now (own_records_at c.args.totals.now c.args.entry.now c.in_ok-count.count 4 [] c.in_ok-count.behind.now) c.loop-done-test.true (omega arith) (omega (arith, len, c.loop-done.invariant.0)) c.key-last.ensures c.in_ok-rec.ensures.exact c.loop-done.invariant.2,
+      c.loop-done.invariant.1 ++ s.rec ∷ [],
+      records_next c.loop-done.invariant.1 c.args.totals.now c.args.entry.now c.in_ok-count.count c.loop-done.done (c.in_ok-count.count - c.loop-done.done - 1) (length c.args.bytes.now - length c.loop-done.rest.now) (length c.args.bytes.now - length c.in_ok-seen.seen.rest.now) c.loop-done.last.now c.in_ok-seen.seen.key.now c.loop-done.rest.now s.rec c.in_ok-seen.seen.rest.now (own_records_at c.args.totals.now c.args.entry.now c.in_ok-count.count 4 [] c.in_ok-count.behind.now) c.loop-done-test.true (omega arith) (omega (arith, len, c.loop-done.invariant.0)) (sym s.key_is) s.read_is c.loop-done.invariant.2,
       λ recs before old.
           let so_far = c.loop-done.invariant.3 recs before old in (
-            ap (λ (k : List ℕ). Some k) c.key-last.ensures ∙ (sym (last_of_push (recs ++ front) rec) ∙ ap last_of (append_assoc recs front (rec ∷ []))),
-            c.in_ok-add.ensures (recs ++ front) rec (sym c.key.ensures) (sym c.ts.ensures) (sym c.seq.ensures) so_far.0 so_far.1 ∙ ap found_in (append_assoc recs front (rec ∷ [])),
+            ap (λ (k : List ℕ). Some k) (sym s.key_is) ∙ (sym (last_of_push (recs ++ front) rec) ∙ ap last_of (append_assoc recs front (rec ∷ []))),
+            c.in_ok-add.ensures (recs ++ front) rec s.key_is s.ts_is s.seq_is so_far.0 so_far.1 ∙ ap found_in (append_assoc recs front (rec ∷ [])),
           ),
     )
 

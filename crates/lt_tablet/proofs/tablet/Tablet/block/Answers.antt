@@ -1,4 +1,3 @@
-use Rattle.std.proofs.Common.{◌≡◌, ◌≤◌, ◌<◌, ◌+◌, ℕ}
 use Rattle.lt_tablet.specs.Loaded.{Loaded}
 use Rattle.lt_tablet.proofs.Places.{tablet_lies, tablet_block, tablet_never_bad}
 use Rattle.lt_tablet.proofs.tablet.Tablet.block.Goals as goal

@@ -1,11 +1,11 @@
-use Rattle.std.proofs.Common.{◌≡◌, ◌⊎◌, ◌<◌, ℕ, Bool, true, false, not, List, [], leb, length, sym, ap, subst, ◌∙◌, rules, of_calls, arith, inl, inr}
+use Rattle.std.proofs.Common.{◌≡◌, ◌⊎◌, ◌<◌, true, not, [], leb, length, sym, ap, subst, ◌∙◌, rules, of_calls, arith, inl, inr}
 use Rattle.std.specs.Prelude.{slice_get}
-use Rattle.std.specs.List.Sorted.{IsPartitionedBy, IsPartitionPoint}
+use Rattle.std.specs.List.Sorted.{IsPartitionedBy}
 use Rattle.std.proofs.lemmas.Bool.{le-leb, and_from}
 use Rattle.std.proofs.lemmas.List.Sorted.{IsPartitionPoint-from_clause}
 use Rattle.lt_rec.specs.Boxes.{meets_lo, meets_hi}
 use Rattle.lt_tablet.specs.Spelling.{Entry, end_of}
-use Rattle.lt_tablet.specs.Loaded.{Loaded, blocks_in, times_meet, IsIndexRange}
+use Rattle.lt_tablet.specs.Loaded.{Loaded, blocks_in, times_meet}
 use Rattle.lt_tablet.proofs.Range.{lo_parts, hi_parts, exactly, outside, outside_times}
 use Rattle.lt_tablet.proofs.tablet.Tablet.index_range.Goals as goal
 use Rattle.lt_tablet.proofs.tablet.Tablet.index_range.Goals.{then-self-area-via-then-self-area, then-self-area-via-else-self-area+then-area-self}

@@ -1,6 +1,6 @@
-use Rattle.std.proofs.Common.{◌≡◌, ◌≤◌, ◌<◌, ◌+◌, ℕ, List, [], Ok, length, drop, sym, ap, subst, ◌∙◌, arith}
+use Rattle.std.proofs.Common.{◌≡◌, ℕ, List, [], Ok, length, sym, ap, subst, ◌∙◌, arith}
 use Rattle.std.proofs.lemmas.Result.{err_from_is_err_and}
-use Rattle.lt_tablet.specs.Spelling.{Entry, Parts, end_of}
+use Rattle.lt_tablet.specs.Spelling.{Entry, end_of}
 use Rattle.lt_tablet.specs.Entries.{IsEntries}
 use Rattle.lt_tablet.specs.Phases.{AreBytes, surveyed}
 use Rattle.lt_tablet.specs.Loaded.{Loaded, listed_totals}

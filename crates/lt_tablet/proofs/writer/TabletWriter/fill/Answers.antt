@@ -1,9 +1,8 @@
-use Rattle.std.proofs.Common.{◌≡◌, true, List, ℕ, [], ◌∷◌, ◌++◌, ap, sym, subst, ◌∙◌}
+use Rattle.std.proofs.Common.{◌≡◌, true, List, [], ◌∷◌, ◌++◌, sym, subst}
 use Rattle.lt_rec.specs.Bytes.{is_less}
 use Rattle.lt_rec.specs.Record.{Record}
 use Rattle.lt_block.specs.Spelling.{last_key}
-use Rattle.lt_block.specs.declared.writer.Added.{Added}
-use Rattle.lt_block.specs.declared.writer.Added.TheVariants.{Put, Full}
+use Rattle.lt_block.specs.declared.writer.Added.TheVariants.{Full}
 use Rattle.lt_tablet.specs.Writing.{Writing, IsCut}
 use Rattle.lt_tablet.proofs.Cut.{room_above, filled_full}
 use Rattle.lt_tablet.proofs.writer.TabletWriter.fill.Goals as goal

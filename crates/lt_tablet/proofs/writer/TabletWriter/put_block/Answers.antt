@@ -1,5 +1,4 @@
-use Rattle.std.proofs.Common.{◌≡◌, ◌+◌, List, ℕ, [], ◌∷◌, ◌++◌, length, refl, ap, sym, subst, ◌∙◌, arith}
-use Rattle.lt_rec.specs.Record.{Record}
+use Rattle.std.proofs.Common.{◌≡◌, ◌+◌, List, ℕ, [], ◌∷◌, ◌++◌, length, refl, ap, sym, subst, ◌∙◌}
 use Rattle.lt_block.specs.Spelling.{spelling, IsBlock}
 use Rattle.lt_tablet.specs.Spelling.{Entry}
 use Rattle.lt_tablet.specs.Writing.{Writing, IsCut}
