@@ -1,3 +1,3 @@
+mod Division
 pub mod Places
 pub mod Filters
-mod Wrapping

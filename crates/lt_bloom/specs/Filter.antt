@@ -1,5 +1,5 @@
 -- A filter over a list of hashes: which bits are set, and which hashes it admits.
-use Rattle.std.specs.Prelude.{ℕ, zero, suc, ◌+◌, ◌*◌, ◌/◌, ◌%◌, ◌^◌, ◌<◌, Bool, ◌==◌, List, length, map, slice_index, if◌then◌else◌}
+use Rattle.std.specs.Prelude.{◌≡◌, ℕ, zero, suc, ◌+◌, ◌*◌, ◌/◌, ◌%◌, ◌^◌, ◌<◌, Bool, ◌==◌, List, length, map, slice_index, if◌then◌else◌}
 use Rattle.std.specs.Int.{w64, rotate_left, bit_at}
 use Rattle.std.specs.Prelude.{bit_or}
 use Rattle.std.specs.List.{list_any, list_all, range_with_len}
@@ -45,7 +45,7 @@ filter_bytes hashes = map (λ k. number_of (λ i. is_probed hashes (8 * k + i)) 
 unfoldable pub admits : List ℕ → ℕ → Bool
 admits bytes hash = list_all (λ i. is_set bytes (place (8 * length bytes) hash i)) (range_with_len 0 7)
 
--- a filter has a byte, and its bits have numbers of 64 bits
-pub record HasLength (bytes : List ℕ) : Type 0 where
+-- a filter has a byte, and the number of its bits stands beside
+pub record HasBits (bytes : List ℕ) (bits : ℕ) : Type 0 where
   pub some : 0 < length bytes
-  pub numbered : 8 * length bytes < 2 ^ 64
+  pub eight : bits ≡ 8 * length bytes

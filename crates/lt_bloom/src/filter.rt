@@ -2,6 +2,7 @@ ghost use Rattle.std.specs.Prelude.{◌≡◌, ◌↔◌, ℕ, List, true, ◌*�
 ghost use Rattle.lt_bloom.specs.Filter.{bytes_for, filter_bytes, admits};
 
 use crate::bits::{are_places_set, set_hashes};
+use crate::divisor::Divisor;
 use lt_rec::{NoMemory, Octets};
 use std::alloc::Global;
 use std::marker::Model;
@@ -10,17 +11,18 @@ use std::marker::Model;
 #[derive(Debug, Drop)]
 pub struct Filter {
     bytes: Octets,
+    bits: Divisor,
 }
 
 impl Model for Filter {
     ghost use Rattle.std.specs.Prelude.{ℕ, List};
-    ghost use Rattle.lt_bloom.specs.Filter.{HasLength};
+    ghost use Rattle.lt_bloom.specs.Filter.{HasBits};
 
     ghost Value = { List ℕ };
 
     ghost view = { λ f. f.bytes };
 
-    ghost invariant = { λ f. HasLength f.bytes };
+    ghost invariant = { λ f. HasBits f.bytes f.bits };
 }
 
 impl Filter {
@@ -37,10 +39,12 @@ impl Filter {
         if count > Filter::MOST_HASHES {
             return Err(NoMemory);
         }
-        let mut bytes = vec![in alloc; 0; bytes_of_count(count) as usize]?;
-        set_hashes(&mut bytes, hashes);
+        let len = bytes_of_count(count);
+        let bits = Divisor::new(8 * len);
+        let mut bytes = vec![in alloc; 0; len as usize]?;
+        set_hashes(&mut bytes, &bits, hashes);
         let bytes = Octets::from_vec(bytes);
-        Ok(Filter { bytes })
+        Ok(Filter { bytes, bits })
     }
 
     /// The filter over so many hashes that these bytes are; `None` exactly where a filter over them has another number
@@ -55,7 +59,8 @@ impl Filter {
         {
             return None;
         }
-        Some(Filter { bytes })
+        let bits = Divisor::new(8 * bytes_of_count(hashes));
+        Some(Filter { bytes, bits })
     }
 
     /// Whether all seven bits of a hash are set. Takes no memory.
@@ -64,7 +69,7 @@ impl Filter {
         // A member is never denied.
         ensures member { (hashes : List ℕ) → self.now ≡ filter_bytes hashes → Contains hashes hash → result ≡ true }
     {
-        are_places_set(self.bytes.as_slice(), hash)
+        are_places_set(self.bytes.as_slice(), &self.bits, hash)
     }
 
     pub fn as_slice(&self) -> &[u8]

@@ -3,6 +3,7 @@
 #![tactic(auto)]
 
 mod bits;
+mod divisor;
 mod filter;
 mod hash;
 

@@ -37,3 +37,10 @@ abbrev pub end_refusal : CommitError → CreateError
 end_refusal commit.Spent = create.Spent
 end_refusal commit.Fault = create.Fault
 end_refusal commit.NoMemory = create.NoMemory
+
+-- no table was made, for a cause that was there before
+abbrev pub Denies : CreateError → Type 0
+Denies create.Exists = Unit {0}
+Denies create.Spent = Unit {0}
+Denies create.Fault = ⊥
+Denies create.NoMemory = ⊥

@@ -1,6 +1,7 @@
 -- What the calls of an anchor make of a directory, one moment after another.
 use Rattle.std.specs.Prelude.{◌≡◌, ◌⊎◌, ◌≤◌, ◌+◌, ℕ, List, Option, Some, Contains}
-use Rattle.lt_io.specs.Directory.{State, file_at, pointed, settled, raised}
+use Rattle.lt_io.specs.Device.{KeepsLent}
+use Rattle.lt_io.specs.Directory.{State, Directory, file_at, pointed, settled, raised}
 
 -- while a directory is opened: the files stand, and each possible descriptor was possible before
 pub record Narrows (before after : State) : Type 0 where
@@ -31,3 +32,12 @@ either old number bytes = pointed (raised old (number + 1)) bytes
 -- the number is lent, and the bytes alone are possible
 abbrev pub replaced : State → ℕ → List ℕ → State
 replaced old number bytes = settled (raised old (number + 1)) (Some bytes)
+
+-- that number alone was lent
+pub record LendsOne (number : ℕ) (old new : Directory) : Type 0 where
+  pub ceiling : new.now.ceiling ≡ number + 1
+  pub lends : new.lends ≡ old.lends + 1
+
+-- that number was lent, or none
+abbrev pub MayLendOne : ℕ → Directory → Directory → Type 0
+MayLendOne number old new = KeepsLent old new ⊎ LendsOne number old new

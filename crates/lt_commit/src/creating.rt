@@ -1,9 +1,10 @@
 ghost use Rattle.std.specs.Prelude.{◌≡◌, ◌≤◌, ◌<◌, ◌+◌, ◌^◌, ◌∷◌, [], ℕ, Some, None, true, IfOk, IfErr, IfSome, OnOk, IsErrOf, IsErrAnd, IsSome, MatchResult};
-ghost use Rattle.lt_io.specs.Device.{Counts};
+ghost use Rattle.lt_io.specs.Device.{Counts, KeepsLent};
 ghost use Rattle.lt_io.specs.Steps.{Steps};
 ghost use Rattle.lt_commit.specs.Anchored.{IsAnchored};
 ghost use Rattle.lt_commit.specs.Begun.{IsEmpty, HoldsEmpty, Begins, NoneOrEmpty, AllEmpty};
-ghost use Rattle.lt_commit.specs.Moments.{Narrows};
+ghost use Rattle.lt_commit.specs.Causes.{Denies};
+ghost use Rattle.lt_commit.specs.Moments.{Narrows, LendsOne, MayLendOne};
 
 use crate::anchor::Anchor;
 use crate::errors::CreateError;
@@ -44,9 +45,14 @@ impl<V: Device> Anchor<V> {
         ensures empty { IfOk result (λ anchor. HoldsEmpty schema ttl anchor) }
         ensures none { V.honest ≡ true → IfOk result (λ anchor. (V.directory dir).seen.descriptor ≡ None) }
         ensures exists { V.honest ≡ true → IsErrAnd result (λ refused. refused.1 ≡ CreateError.Exists) → IsSome (V.directory dir).seen.descriptor }
-        ensures untouched { V.honest ≡ true → IfErr result (λ refused. refused.1 ≡ CreateError.Exists → Steps Narrows (V.directory dir) (V.directory refused.0)) }
         ensures spent { V.honest ≡ true → IsErrAnd result (λ refused. refused.1 ≡ CreateError.Spent) → 2 ^ 62 ≤ (V.directory dir).now.ceiling }
+        ensures spent_none { V.honest ≡ true → IsErrAnd result (λ refused. refused.1 ≡ CreateError.Spent) → (V.directory dir).seen.descriptor ≡ None }
         ensures unspent { V.honest ≡ true → IfOk result (λ anchor. (V.directory dir).now.ceiling < 2 ^ 62) }
+
+        // `Exists` and `Spent` come before anything is lent or pointed at.
+        ensures untouched { V.honest ≡ true → IfErr result (λ refused. Denies refused.1 → Steps Narrows (V.directory dir) (V.directory refused.0)) }
+        ensures untouched_seen { V.honest ≡ true → IfErr result (λ refused. Denies refused.1 → (V.directory refused.0).seen ≡ (V.directory dir).seen) }
+        ensures untouched_lent { IfErr result (λ refused. Denies refused.1 → KeepsLent (V.directory dir) (V.directory refused.0)) }
 
         // What a stop may leave, from the start of the call on and whatever it answers. Where 'no descriptor' was all that
         // was possible, each image has none or opens to the empty table; after Ok each opens to it.
@@ -54,6 +60,9 @@ impl<V: Device> Anchor<V> {
         ensures images { V.honest ≡ true → (V.directory dir).now.may ≡ None ∷ [] → MatchResult result (λ anchor. NoneOrEmpty schema ttl (V.directory dir) anchor.directory) (λ refused. NoneOrEmpty schema ttl (V.directory dir) (V.directory refused.0)) }
         ensures acknowledged { V.honest ≡ true → IfOk result (λ anchor. AllEmpty schema ttl anchor.directory) }
 
+        // The number of the descriptor's file is the ceiling. A refusal lent that one or none.
+        ensures number { V.honest ≡ true → IfOk result (λ anchor. LendsOne (V.directory dir).now.ceiling (V.directory dir) anchor.directory) }
+        ensures at_most_one { V.honest ≡ true → IfErr result (λ refused. MayLendOne (V.directory dir).now.ceiling (V.directory dir) (V.directory refused.0)) }
         ensures lends { MatchResult result (λ anchor. anchor.directory.lends ≡ (V.directory dir).lends + 1) (λ refused. (V.directory refused.0).lends ≤ (V.directory dir).lends + 1) }
         ensures anchored { IfOk result (λ anchor. IsAnchored V.honest anchor) }
         ensures cause { Counts (V.faults dev.old) (V.faults dev.new) (IsErrAnd result (λ refused. refused.1 ≡ CreateError.Fault)) }
@@ -81,10 +90,12 @@ impl<V: Device> Anchor<V> {
         ensures empty { OnOk result (HoldsEmpty schema ttl self.new) }
         ensures spent { IsErrOf result CreateError.Spent → 2 ^ 62 ≤ file }
         ensures unspent { OnOk result (file < 2 ^ 62) }
+        ensures denied { IfErr result (λ refused. Denies refused → self.new ≡ self.old) }
         ensures no_table { IsErrOf result CreateError.Exists → ⊥ }
         ensures any_moment { V.honest ≡ true → Steps (Begins schema ttl) self.old.directory self.new.directory }
         ensures acknowledged { V.honest ≡ true → OnOk result (AllEmpty schema ttl self.new.directory) }
-        ensures ok { OnOk result (self.new.directory.lends ≡ self.old.directory.lends + 1) }
+        ensures number { OnOk result (LendsOne file self.old.directory self.new.directory) }
+        ensures at_most_one { MayLendOne file self.old.directory self.new.directory }
         ensures lends { self.new.directory.lends ≤ self.old.directory.lends + 1 }
         ensures anchored { IsAnchored V.honest self.new }
         ensures cause { Counts (V.faults dev.old) (V.faults dev.new) (IsErrOf result CreateError.Fault) }

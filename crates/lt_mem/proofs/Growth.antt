@@ -4,8 +4,7 @@ use Rattle.std.proofs.lemmas.List.{take_all, take-append-le}
 use Rattle.std.proofs.Math.Seq.{take-append-add}
 use Rattle.std.proofs.lemmas.Bool.{cases_lt}
 use Rattle.lt_rec.specs.Record.{Record}
-use Rattle.lt_mem.specs.Pieces.{grown}
-use Rattle.lt_mem.specs.declared.growing.Growing.{Growing}
+use Rattle.lt_mem.specs.Growth.{ListInGrowth, grown}
 
 take_rest : (n : ℕ) (xs ys : List Record) → take n xs ++ take (n - length xs) ys ≡ take n (xs ++ ys)
 take_rest n xs ys = elim (cases_lt (length xs) n) [
@@ -17,7 +16,7 @@ take_rest n xs ys = elim (cases_lt (length xs) n) [
       ap (λ k. take n xs ++ take k ys) e ∙ append-nil (take n xs) ∙ sym (take-append-le n xs ys less)
 ]
 
-pub grown_more : (g : Growing) (xs ys : List Record) → grown (grown g xs) ys ≡ grown g (xs ++ ys)
+pub grown_more : (g : ListInGrowth) (xs ys : List Record) → grown (grown g xs) ys ≡ grown g (xs ++ ys)
 grown_more g xs ys = λ i. record { list = lists i; left = lefts i }
   where
     lists : (g.list ++ take g.left xs) ++ take (g.left - length xs) ys ≡ g.list ++ take g.left (xs ++ ys)
@@ -27,7 +26,7 @@ grown_more g xs ys = λ i. record { list = lists i; left = lefts i }
     lefts = let long = length-append xs ys in omega arith
 
 -- with no records, and with no room left
-pub grown_by_none : (g : Growing) → grown g [] ≡ g
+pub grown_by_none : (g : ListInGrowth) → grown g [] ≡ g
 grown_by_none g = λ i. record { list = lists i; left = lefts i }
   where
     lists : g.list ++ take g.left [] ≡ g.list
@@ -36,7 +35,7 @@ grown_by_none g = λ i. record { list = lists i; left = lefts i }
     lefts : g.left - 0 ≡ g.left
     lefts = omega arith
 
-pub grown_full : (g : Growing) (xs : List Record) → g.left ≡ 0 → grown g xs ≡ g
+pub grown_full : (g : ListInGrowth) (xs : List Record) → g.left ≡ 0 → grown g xs ≡ g
 grown_full g xs e = λ i. record { list = lists i; left = lefts i }
   where
     lists : g.list ++ take g.left xs ≡ g.list
@@ -46,9 +45,9 @@ grown_full g xs e = λ i. record { list = lists i; left = lefts i }
     lefts = omega arith
 
 -- what a step adds
-pub grown_step : (g old new : Growing) (was more now : List Record) → old ≡ grown g was → new ≡ grown old more → now ≡ was ++ more → new ≡ grown g now
+pub grown_step : (g old new : ListInGrowth) (was more now : List Record) → old ≡ grown g was → new ≡ grown old more → now ≡ was ++ more → new ≡ grown g now
 grown_step g old new was more now e f h = f ∙ ap (λ o. grown o more) e ∙ grown_more g was more ∙ ap (grown g) (sym h)
 
 -- the first of the records that are read, once there is no room for others
-pub grown_whole : (g full : Growing) (was rest whole : List Record) → full ≡ grown g was → full.left ≡ 0 → whole ≡ was ++ rest → full ≡ grown g whole
+pub grown_whole : (g full : ListInGrowth) (was rest whole : List Record) → full ≡ grown g was → full.left ≡ 0 → whole ≡ was ++ rest → full ≡ grown g whole
 grown_whole g full was rest whole e z h = grown_step g full full was rest whole e (sym (grown_full full rest z)) h

@@ -1,3 +1,4 @@
 pub mod Rising
 pub mod Pieces
 pub mod Lead
+pub mod Growth

@@ -1,5 +1,5 @@
 -- Rising records in pieces.
-use Rattle.std.specs.Prelude.{◌≡◌, ℕ, ◌+◌, ◌-◌, ◌<◌, ◌≤◌, ◌⊎◌, Bool, true, false, ◌&&◌, nat_le, List, [], ◌∷◌, ◌++◌, length, take, slice_index_or}
+use Rattle.std.specs.Prelude.{◌≡◌, ℕ, ◌+◌, ◌<◌, ◌≤◌, ◌⊎◌, Bool, true, false, ◌&&◌, nat_le, List, [], ◌∷◌, length, take, slice_index_or}
 use Rattle.std.specs.List.{All}
 use Rattle.lt_rec.specs.Bytes.{is_less}
 use Rattle.lt_rec.specs.Record.{Record}
@@ -7,7 +7,6 @@ use Rattle.lt_rec.specs.Records.{joined}
 use Rattle.lt_rec.specs.Boxes.{is_below, meets_lo, meets_hi}
 use Rattle.lt_rec.specs.declared.cut.Cut.{Cut}
 use Rattle.lt_rec.specs.declared.raw_box.RawBox.{RawBox}
-use Rattle.lt_mem.specs.declared.growing.Growing.{Growing}
 use Rattle.lt_mem.specs.Rising.{IsRising}
 use Rattle.lt_mem.specs.Lead.{IsLead}
 
@@ -87,7 +86,3 @@ AllMeetHi area recs = All (λ r. meets_hi area.hi r.key ≡ true) recs
 
 abbrev pub NoneMeetsHi : RawBox → List Record → Type 0
 NoneMeetsHi area recs = All (λ r. meets_hi area.hi r.key ≡ false) recs
-
--- with the first of these records, as many as there is room for
-abbrev pub grown : Growing → List Record → Growing
-grown found recs = record { list = found.list ++ take found.left recs; left = found.left - length recs }

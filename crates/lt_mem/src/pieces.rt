@@ -65,7 +65,7 @@ impl Pieces {
     {
         let mut found = Growing::new(*self.pieces.allocator(), limit);
         walk_pieces(self.pieces.as_slice(), area, down, &mut found)?;
-        Ok(found.list)
+        found.into_list()
     }
 
     /// Adds a record, unless one has its key already.

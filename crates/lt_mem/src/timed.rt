@@ -1,7 +1,8 @@
 ghost use Rattle.std.specs.Prelude.{◌≡◌, ℕ, ◌<◌, ◌≤◌, true, false, OnOk, filter, length, slice_index_or};
 ghost use Rattle.lt_rec.specs.Record.{Record};
 ghost use Rattle.lt_mem.specs.Rising.{in_order};
-ghost use Rattle.lt_mem.specs.Pieces.{grown, has_time};
+ghost use Rattle.lt_mem.specs.Pieces.{has_time};
+ghost use Rattle.lt_mem.specs.Growth.{grown};
 
 use crate::growing::Growing;
 use lt_rec::{Chunk, NoMemory, RawBox, Rec};

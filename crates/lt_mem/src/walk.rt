@@ -2,7 +2,8 @@ ghost use Rattle.std.specs.Prelude.{◌≡◌, ℕ, ◌+◌, ◌/◌, ◌<◌, �
 ghost use Rattle.lt_rec.specs.Boxes.{in_box};
 ghost use Rattle.lt_rec.specs.Records.{joined, piece};
 ghost use Rattle.lt_mem.specs.Rising.{IsRising, in_order};
-ghost use Rattle.lt_mem.specs.Pieces.{grown, has_time, piece_at, AreLined, AllMeetLo, AllMeetHi, EachRises};
+ghost use Rattle.lt_mem.specs.Pieces.{has_time, piece_at, AreLined, AllMeetLo, AllMeetHi, EachRises};
+ghost use Rattle.lt_mem.specs.Growth.{grown};
 
 use crate::growing::Growing;
 use crate::piece::Piece;
@@ -103,6 +104,6 @@ pub fn walk_pieces(
     let first = first_of(pieces, area).min(end);
     let (front, _) = pieces.split_at(end);
     let (_, between) = front.split_at(first);
-    found.reserve(between.len().min(most_pieces(found.left)))?;
+    found.reserve(between.len().min(most_pieces(found.left())))?;
     walk_between(between, area, down, found)
 }

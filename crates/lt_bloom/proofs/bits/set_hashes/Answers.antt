@@ -8,7 +8,7 @@ use Rattle.lt_bloom.proofs.bits.set_hashes.Goals as goal
 pub loop-hash-init : goal.loop-hash-init
 loop-hash-init c = (λ i. omega (arith, c.type_inv.bytes i), λ p. none_set c.args.bytes.now (bytes_for (length c.args.hashes.now)) p c.requires.clear)
 
-pub returns : goal.returns
-returns c =
+pub returns-clause-exact : goal.returns-clause-exact
+returns-clause-exact c =
     let len : length c.args.bytes.now ≡ bytes_for (length c.args.hashes.now) = ap length c.requires.clear ∙ length-replicate (bytes_for (length c.args.hashes.now)) 0 in
-    record { exact = filled c.loop-hash.bytes c.args.hashes.now c.loop-hash.invariant.0 (omega arith) (λ p. c.loop-hash.invariant.1 p ∙ all_taken c.args.hashes.now c.loop-hash.hash-index (length c.args.bytes.now * 8) (8 * bytes_for (length c.args.hashes.now)) (omega arith) (omega arith) p) }
+    filled c.loop-hash.bytes c.args.hashes.now c.loop-hash.invariant.0 (omega arith) (λ p. c.loop-hash.invariant.1 p ∙ all_taken c.args.hashes.now c.loop-hash.hash-index c.args.bits.now (8 * bytes_for (length c.args.hashes.now)) (omega arith) (omega arith) p)

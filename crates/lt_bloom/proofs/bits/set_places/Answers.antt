@@ -1,29 +1,20 @@
-use Rattle.std.proofs.Common.{◌≡◌, arith, sym, ap, ◌∙◌, eqb, ◌||◌, ℕ, ◌+◌, ◌%◌, ◌^◌, refl}
+use Rattle.std.proofs.Common.{◌≡◌, arith, sym, ap, ◌∙◌, eqb, ◌||◌, ℕ}
 use Rattle.std.proofs.Math.Bool.{or-false}
-use Rattle.lt_bloom.specs.Filter.{is_set, is_among, is_place, stride_of, place}
+use Rattle.lt_bloom.specs.Filter.{is_set, is_among, is_place}
 use Rattle.lt_bloom.proofs.Places.{goes_on}
-use Rattle.lt_bloom.proofs.Wrapping.{first_number, next_number}
 use Rattle.lt_bloom.proofs.bits.set_places.Goals as goal
 
-pub loop-init : goal.loop-init
-loop-init c = record {
-  set = λ p. sym (or-false (is_set c.args.bytes.now p));
-  number = first_number c.args.hash (stride_of c.args.hash) c.ranges.hash.fits;
-  at = refl;
-}
+pub loop-i-init : goal.loop-i-init
+loop-i-init c = λ p. sym (or-false (is_set c.args.bytes.now p))
 
-pub loop-preserved : goal.loop-preserved
-loop-preserved c =
-    let l = c.loop in
-    let here : l.at ≡ place c.args.bits c.args.hash l.counter = l.invariant.at ∙ ap (λ (n : ℕ). n % c.args.bits) l.invariant.number in
-    record {
-      set = λ p. goes_on l.counter c.args.bits c.args.hash p (is_set c.args.bytes.now p) (is_set l.bytes p) (is_set c.set_bit.new.bytes p) (l.invariant.set p) (c.set_bit.ensures.set p ∙ ap (λ (at : ℕ). is_set l.bytes p || eqb at p) here);
-      number = c.next_probe.ensures.number ∙ ap (λ (s : ℕ). (l.number + s) % 2 ^ 64) c.stride_of-stride.ensures ∙ next_number c.args.hash (stride_of c.args.hash) l.counter l.number l.invariant.number;
-      at = c.next_probe.ensures.at;
-    }
+pub loop-i-preserved : goal.loop-i-preserved
+loop-i-preserved c = λ p.
+    let l = c.loop-i in
+    goes_on l.i c.args.bits.now c.args.hash p (is_set c.args.bytes.now p) (is_set l.bytes p) (is_set c.set_bit.new.bytes p) (l.invariant p)
+    (c.set_bit.ensures.set p ∙ ap (λ (at : ℕ). is_set l.bytes p || eqb at p) c.place_of.ensures.exact)
 
 pub returns-clause-set : goal.returns-clause-set
 unfolding is_place
 returns-clause-set c = λ p.
-    let e : c.loop.counter ≡ 7 = omega arith in
-    c.loop.invariant.set p ∙ ap (λ (k : ℕ). is_set c.args.bytes.now p || is_among k c.args.bits c.args.hash p) e
+    let e : c.loop-i.i ≡ 7 = omega arith in
+    c.loop-i.invariant p ∙ ap (λ (k : ℕ). is_set c.args.bytes.now p || is_among k c.args.bits.now c.args.hash p) e

@@ -4,7 +4,8 @@ use Rattle.std.proofs.lemmas.List.Elements.{filter-append}
 use Rattle.std.proofs.lemmas.Bool.{eqb-true}
 use Rattle.lt_rec.specs.Record.{Record}
 use Rattle.lt_mem.specs.Rising.{in_order}
-use Rattle.lt_mem.specs.Pieces.{grown, has_time}
+use Rattle.lt_mem.specs.Pieces.{has_time}
+use Rattle.lt_mem.specs.Growth.{grown}
 use Rattle.lt_mem.proofs.Filtered.{run_step, length_in_order}
 use Rattle.lt_mem.proofs.Growth.{grown_step, grown_whole, grown_by_none}
 use Rattle.lt_mem.proofs.timed.add_timed.Goals as goal

@@ -1,6 +1,7 @@
 use Rattle.std.proofs.Common.{◌≡◌, ◌-◌, ◌+◌, ◌≤◌, length, filter, take}
 use Rattle.lt_mem.specs.Rising.{in_order}
-use Rattle.lt_mem.specs.Pieces.{grown, has_time}
+use Rattle.lt_mem.specs.Pieces.{has_time}
+use Rattle.lt_mem.specs.Growth.{grown}
 use Rattle.lt_mem.proofs.timed.add_timed.Given as goal
 
 -- the records that were read so far are added

@@ -2,7 +2,7 @@ use Rattle.std.proofs.Common.{◌≡◌, filter}
 use Rattle.lt_rec.specs.Boxes.{in_box}
 use Rattle.lt_rec.specs.Records.{joined}
 use Rattle.lt_mem.specs.Rising.{in_order}
-use Rattle.lt_mem.specs.Pieces.{grown}
+use Rattle.lt_mem.specs.Growth.{grown}
 use Rattle.lt_mem.proofs.Reading.{so_far}
 use Rattle.lt_mem.proofs.walk.walk_between.Given as goal
 

@@ -3,7 +3,8 @@ use Rattle.lt_rec.specs.Boxes.{in_box}
 use Rattle.lt_rec.specs.Record.{Record}
 use Rattle.lt_rec.specs.Records.{piece}
 use Rattle.lt_mem.specs.Rising.{in_order}
-use Rattle.lt_mem.specs.Pieces.{grown, has_time}
+use Rattle.lt_mem.specs.Pieces.{has_time}
+use Rattle.lt_mem.specs.Growth.{grown}
 use Rattle.lt_mem.proofs.Filtered.{box_middle, box_none}
 use Rattle.lt_mem.proofs.Growth.{grown_by_none}
 use Rattle.lt_mem.proofs.walk.walk_piece.Goals as goal

@@ -2,7 +2,8 @@ use Rattle.std.proofs.Common.{◌≡◌, true, false, List, OnOk, take, drop, re
 use Rattle.lt_rec.specs.Record.{Record}
 use Rattle.lt_rec.specs.Records.{piece}
 use Rattle.lt_mem.specs.Rising.{in_order}
-use Rattle.lt_mem.specs.Pieces.{grown, has_time}
+use Rattle.lt_mem.specs.Pieces.{has_time}
+use Rattle.lt_mem.specs.Growth.{grown}
 use Rattle.lt_mem.proofs.Filtered.{filter_none, filter_all, all_in_piece, drop_front}
 use Rattle.lt_mem.proofs.Growth.{grown_by_none}
 use Rattle.lt_mem.proofs.walk.walk_run.Goals as goal
