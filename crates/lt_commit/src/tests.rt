@@ -157,15 +157,16 @@ fn each_image_of_a_table_that_is_made(rt: HostRuntime) -> Result<(), Fail> {
         ("7", "7"),
     ];
     for (moment, (first, second)) in wanted.iter().enumerate() {
-        let absent = image(alloc, &dir, moment as u64, 0, Loose::Absent)?;
-        let filled = Loose::Filled(Octets::from_slice(alloc, b"?")?);
-        let other = image(alloc, &dir, moment as u64, 1, filled)?;
-        assert_eq!(rt; absent.as_str(), *first, "moment {moment}");
-        assert_eq!(rt;
-            other.as_str(),
-            *second,
-            "moment {moment}, the second descriptor"
-        );
+        for (which, answer) in [(0, first), (1, second)] {
+            let filled = Loose::Filled(Octets::from_slice(alloc, b"?")?);
+            let absent = image(alloc, &dir, moment as u64, which, Loose::Absent)?;
+            let filled = image(alloc, &dir, moment as u64, which, filled)?;
+            assert_eq!(rt;
+                (absent.as_str(), filled.as_str()),
+                (*answer, *answer),
+                "moment {moment}, descriptor {which}, loose files absent and filled"
+            );
+        }
     }
     Ok(())
 }

@@ -1,5 +1,5 @@
 -- For which histories a plain table stands, and what it answers then.
-use Rattle.std.specs.Prelude.{ℕ, ◌+◌, ◌≡◌, ◌≢◌, ◌≤◌, ◌<◌, ◌^◌, Bool, ◌&&◌, List, [], ◌∷◌, ◌++◌, length, take, map, filter, nat_le, nat_lt, All, Contains, IsSorted, IsPermutation, None}
+use Rattle.std.specs.Prelude.{⊤, ℕ, ◌+◌, ◌≡◌, ◌≢◌, ◌≤◌, ◌<◌, ◌^◌, Bool, ◌&&◌, List, [], ◌∷◌, ◌++◌, length, take, map, filter, nat_le, nat_lt, All, Contains, IsSorted, IsPermutation, None}
 use Rattle.std.specs.declared.cmp.Ordering.{Ordering}
 use Rattle.lt_schema.specs.declared.value.Value.{Value}
 use Rattle.lt_schema.specs.Shapes.{SchemaShape}
@@ -9,6 +9,7 @@ use Rattle.lt_schema.specs.Check.{Passes, key_of, time_of}
 use Rattle.lt_lang.specs.declared.query.Query.{Query}
 use Rattle.lt_lang.specs.declared.command.Command.{Command}
 use Rattle.lt_lang.specs.declared.reply.Reply.{Reply}
+use Rattle.lt_lang.specs.declared.reply.Reply.TheVariants.{Damaged}
 use Rattle.lt_model.specs.History.{Numbered, Opening, Entry, History, extended}
 use Rattle.lt_model.specs.Readings.{rows, next, low, kept, schemas, life, bound_at}
 use Rattle.lt_model.specs.Boxes.{meets_low, meets_high}
@@ -34,6 +35,11 @@ pub record IsAnswered (h : History) (new : Opening) (now : ℕ) (command : Comma
 -- so it is for each legal history that the table stood for
 abbrev pub Answers : Opening → Opening → ℕ → Command → Reply → Type 0
 Answers old new now command reply = (h : History) → IsLegal h → StandsFor old h → IsAnswered h new now command reply
+
+-- the reply tells of no damaged file
+abbrev pub IsUndamaged : Reply → Type 0
+IsUndamaged (Damaged file at) = ⊥
+IsUndamaged _ = ⊤
 
 -- the row's key meets both edges, and its timestamp is one of the times
 abbrev pub box_has : SchemaShape → Query → List Value → Bool

@@ -55,7 +55,7 @@ impl ListTable {
     ghost use Rattle.lt_model.specs.Readings.{bound_at};
     ghost use Rattle.lt_schema.specs.Versions.{newest, newest_version, alter_refusal};
     ghost use Rattle.lt_schema.specs.declared.change.Change.{Change as SchemaChange};
-    ghost use Rattle.lt_plain.specs.Table.{Answers, empty_of, with_row, with_change, rest_of};
+    ghost use Rattle.lt_plain.specs.Table.{Answers, IsUndamaged, empty_of, with_row, with_change, rest_of};
 
     /// The table that an opening finds: its schemas, its time to live and its low bound in microseconds, the next row's
     /// number, the number below which all is durable, and its rows. Takes no memory.
@@ -148,6 +148,7 @@ impl ListTable {
         ensures answered { IfOk result (Answers self.old self.new now (Insert row)) }
         ensures rest { rest_of self.new ≡ rest_of self.old }
         ensures no_fault { IfOk result (λ reply. reply ≢ Reply.Fault) }
+        ensures undamaged { IfOk result IsUndamaged }
         ensures unchanged { OnErr result (self.new ≡ self.old) }
     {
         if let Err(fault) = self.schemas.newest().check(row.as_slice()) {
@@ -173,6 +174,7 @@ impl ListTable {
     pub fn scan(&self, alloc: Global, query: &Query, now: u64) -> Result<Reply, NoMemory>
         ensures answered { IfOk result (Answers self.now self.now now (Scan query.now)) }
         ensures no_fault { IfOk result (λ reply. reply ≢ Reply.Fault) }
+        ensures undamaged { IfOk result IsUndamaged }
     {
         if !may_limit(query.limit) {
             return Ok(Reply::BadLimit { given: query.limit });

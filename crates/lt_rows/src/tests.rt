@@ -1,3 +1,4 @@
+mod descriptors;
 mod files;
 mod reading;
 mod writing;

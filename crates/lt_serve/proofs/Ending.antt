@@ -1,6 +1,6 @@
 -- How a session ends.
-use Rattle.std.proofs.Common.{◌≡◌, ℕ, IsTrue, List, [], ◌∷◌, ◌++◌, length, refl, sym, ◌∙◌, ap, subst, Option, Some, None, arith, zero-add}
-use Rattle.std.specs.Prelude.{sum_by}
+use Rattle.std.proofs.Common.{◌≡◌, ℕ, IsTrue, List, [], ◌∷◌, ◌++◌, length, refl, sym, ◌∙◌, ap, subst, Option, Some, None}
+use Rattle.std.specs.Prelude.{All}
 use Rattle.std.specs.List.{flat_map}
 use Rattle.std.proofs.lemmas.List.{append-nil}
 use Rattle.lt_lang.specs.Lines.{cut_lines}
@@ -15,8 +15,9 @@ use Rattle.lt_model.specs.Readings.{next, kept}
 use Rattle.lt_model.specs.Session.{Client, Block, Mark, LinesAnswered, IsSession, clients_of}
 use Rattle.lt_model.specs.Growing.{SoFar, seen_after_all}
 use Rattle.lt_model.proofs.Growth.{IsSession-nobody, IsSession-one}
+use Rattle.lt_plain.specs.Table.{IsUndamaged}
 use Rattle.lt_serve.specs.Session.{lines_of, AreSpelled, client_of, MayAnswer, AllMayAnswer, IsBuilt, blocks_text}
-use Rattle.lt_serve.specs.Growing.{told, asks_built, block_head, faults_in, HasAnswered, ReadSoFar, IsAnswered}
+use Rattle.lt_serve.specs.Growing.{told, asks_built, block_head, faults_in, replies_of, AtMostRose, UsesNumbers, HasAnswered, ReadSoFar, IsAnswered}
 use Rattle.lt_serve.proofs.Telling.{told_by_none, clients_of-none, clients_of-ours}
 use Rattle.lt_serve.proofs.Looked.{all_cut}
 
@@ -43,12 +44,12 @@ nothing_answered clock h [] (mark ∷ marks) answered = absurd answered
 nothing_answered clock h (reply ∷ replies) [] answered = absurd answered
 nothing_answered clock h (reply ∷ replies) (mark ∷ marks) answered = absurd answered
 
--- the session of the lines so far, its blocks' text and its faults
+-- the session of the lines so far, its blocks' text and its replies
 record IsWhole (clock : ℕ → Type 0) (client : Option (List ℕ)) (lines : List Line) (replies : List Reply) (h : History) : Type 0 where
   blocks : List Block
   session : IsSession clock 0 (clients_of lines) blocks h
   written : block_head client ++ flat_map reply_text_of replies ≡ blocks_text blocks
-  faults : sum_by (λ (block : Block). faults_in block.replies) blocks ≡ faults_in replies
+  all : replies_of blocks ≡ replies
 
 session_of_nobody : (clock : ℕ → Type 0) (lines : List Line) (replies : List Reply) (h : History) → AllMayAnswer None lines → SoFar clock 0 (told lines) replies h → IsWhole clock None lines replies h
 session_of_nobody clock lines replies h all so_far =
@@ -59,7 +60,7 @@ session_of_nobody clock lines replies h all so_far =
       blocks = [];
       session = subst (λ (clients : List Client). IsSession clock 0 clients [] h) (sym (clients_of-none lines all)) (subst (λ (began : ℕ). IsSession clock began [] [] h) none (IsSession-nobody clock h own.legal));
       written = ap (flat_map reply_text_of) nothing.0;
-      faults = ap faults_in (sym nothing.0);
+      all = sym nothing.0;
     }
 
 session_of_one : (clock : ℕ → Type 0) (name : List ℕ) (lines : List Line) (replies : List Reply) (h : History) → client_of lines ≡ Some name → AllMayAnswer (Some name) lines → SoFar clock 0 (told lines) replies h
@@ -68,7 +69,7 @@ session_of_one clock name lines replies h whose all so_far = record {
   blocks = record { name = name; replies = replies } ∷ [];
   session = subst (λ (clients : List Client). IsSession clock 0 clients (record { name = name; replies = replies } ∷ []) h) (sym (clients_of-ours name lines whose all)) (IsSession-one clock 0 name (told lines) replies h so_far);
   written = sym (append-nil (client_line name ++ flat_map reply_text_of replies));
-  faults = zero-add (faults_in replies);
+  all = append-nil replies;
 }
 
 session_of : (clock : ℕ → Type 0) (client : Option (List ℕ)) (lines : List Line) (replies : List Reply) (h : History) → client ≡ client_of lines → AllMayAnswer client lines → SoFar clock 0 (told lines) replies h → IsWhole clock client lines replies h
@@ -79,12 +80,13 @@ all_spelled : (cut : List (List ℕ)) → AreSpelled cut
 all_spelled [] = tt
 all_spelled (bytes ∷ others) = (line_spelled bytes (line_at bytes) refl, all_spelled others)
 
-pub ReadSoFar-begin : (clock : ℕ → Type 0) (opening held : Opening) (client : Option (List ℕ)) (input text : List ℕ) (before now : ℕ) → HasAnswered clock opening held client text [] before now → ReadSoFar clock opening held client input input text before now
-ReadSoFar-begin clock opening held client input text before now answered = record { lines = []; cut = refl; answered = answered }
+pub ReadSoFar-begin : (clock : ℕ → Type 0) (opening held : Opening) (client : Option (List ℕ)) (input text : List ℕ) (before now first free : ℕ) → HasAnswered clock opening held client text [] before now first free
+    → ReadSoFar clock opening held client input input text before now first free
+ReadSoFar-begin clock opening held client input text before now first free answered = record { lines = []; cut = refl; answered = answered }
 
-pub IsAnswered-ended : (clock : ℕ → Type 0) (opening held : Opening) (client : Option (List ℕ)) (input rest text whole : List ℕ) (before now : ℕ) → ReadSoFar clock opening held client input rest text before now → rest ≡ []
-    → IsBuilt input → client ≡ client_of (lines_of input) → whole ≡ text ++ end_line held.next held.kept → IsAnswered clock opening held input whole before now
-IsAnswered-ended clock opening held client input rest text whole before now so_far ended built whose written =
+pub IsAnswered-ended : (clock : ℕ → Type 0) (opening held : Opening) (client : Option (List ℕ)) (input rest text whole : List ℕ) (before now first free : ℕ) → ReadSoFar clock opening held client input rest text before now first free → rest ≡ []
+    → IsBuilt input → client ≡ client_of (lines_of input) → whole ≡ text ++ end_line held.next held.kept → IsAnswered clock opening held input whole before now first free
+IsAnswered-ended clock opening held client input rest text whole before now first free so_far ended built whose written =
     let answered = so_far.answered in
     let all : so_far.lines ≡ lines_of input = sym (all_cut input rest so_far.lines so_far.cut ended) in
     let session = session_of clock client (lines_of input) answered.replies answered.history whose (subst (λ (own : Option (List ℕ)). AllMayAnswer own (lines_of input)) (sym whose) built)
@@ -101,5 +103,8 @@ IsAnswered-ended clock opening held client input rest text whole before now so_f
             ∙ ap (λ (blocks : List ℕ). blocks ++ end_line (next answered.history) (kept answered.history)) (answered.written ∙ session.written);
       };
       stands = answered.stands;
-      faults = omega (arith, session.faults, answered.faults);
+      faults = subst (λ (replies : List Reply). AtMostRose before (faults_in replies) now) (sym session.all) answered.faults;
+      undamaged = subst (All IsUndamaged) (sym session.all) answered.undamaged;
+      numbers = subst (λ (replies : List Reply). UsesNumbers first (told (lines_of input)) replies free) (sym session.all)
+          (subst (λ (lines : List Line). UsesNumbers first (told lines) answered.replies free) all answered.numbers);
     }

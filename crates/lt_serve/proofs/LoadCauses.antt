@@ -38,21 +38,21 @@ leaves_unloaded Spent told old new input why images = images
 leaves_unloaded (NotYet line) told old new input why images = images
 
 -- a table was loaded, and its lines were not answered
-pub leaves_interrupted : (status : Status) (told : Bool) (old middle new : Directory) (opening held : Opening) (input : List ℕ) → LoadsTable told old opening middle → HasHistory opening held → StaysKept told opening held middle new
+pub leaves_interrupted : (status : Status) (told : Bool) (old middle new : Directory) (opening held : Opening) (input : List ℕ) (free : ℕ) → LoadsTable told old opening middle free → HasHistory opening held → StaysKept told opening held middle new
     → IsInterrupted status input middle new → Leaves status told old new
-leaves_interrupted (NotYet line) told old middle new opening held input loads has stays why = λ h. subst (NothingNew old) (sym why.1) (loads.before h)
-leaves_interrupted NoMemory told old middle new opening held input loads has stays why = inr (ran_on told old middle new opening held loads has stays)
-leaves_interrupted Done told old middle new opening held input loads has stays why = absurd why
-leaves_interrupted SinkFault told old middle new opening held input loads has stays why = absurd why
-leaves_interrupted Usage told old middle new opening held input loads has stays why = absurd why
-leaves_interrupted SourceFault told old middle new opening held input loads has stays why = absurd why
-leaves_interrupted TooLong told old middle new opening held input loads has stays why = absurd why
-leaves_interrupted Exists told old middle new opening held input loads has stays why = absurd why
-leaves_interrupted NoTable told old middle new opening held input loads has stays why = absurd why
-leaves_interrupted (Refused at) told old middle new opening held input loads has stays why = absurd why
-leaves_interrupted DeviceFault told old middle new opening held input loads has stays why = absurd why
-leaves_interrupted (BadSchema bad) told old middle new opening held input loads has stays why = absurd why
-leaves_interrupted Spent told old middle new opening held input loads has stays why = absurd why
+leaves_interrupted (NotYet line) told old middle new opening held input free loads has stays why = λ h. subst (NothingNew old) (sym why.1) (loads.before h)
+leaves_interrupted NoMemory told old middle new opening held input free loads has stays why = inr (ran_on told old middle new opening held free loads has stays)
+leaves_interrupted Done told old middle new opening held input free loads has stays why = absurd why
+leaves_interrupted SinkFault told old middle new opening held input free loads has stays why = absurd why
+leaves_interrupted Usage told old middle new opening held input free loads has stays why = absurd why
+leaves_interrupted SourceFault told old middle new opening held input free loads has stays why = absurd why
+leaves_interrupted TooLong told old middle new opening held input free loads has stays why = absurd why
+leaves_interrupted Exists told old middle new opening held input free loads has stays why = absurd why
+leaves_interrupted NoTable told old middle new opening held input free loads has stays why = absurd why
+leaves_interrupted (Refused at) told old middle new opening held input free loads has stays why = absurd why
+leaves_interrupted DeviceFault told old middle new opening held input free loads has stays why = absurd why
+leaves_interrupted (BadSchema bad) told old middle new opening held input free loads has stays why = absurd why
+leaves_interrupted Spent told old middle new opening held input free loads has stays why = absurd why
 
 -- memory ran out while the refusal was told
 leaves_no_memory : (status : Status) (told : Bool) (old new : Directory) → Leaves status told old new → Leaves NoMemory told old new

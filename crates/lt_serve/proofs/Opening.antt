@@ -1,9 +1,10 @@
 -- What stops leave of a table that was loaded.
 use Rattle.std.proofs.Common.{◌≡◌, ◌≤◌, ℕ, Bool, true, List, [], ◌∷◌, ◌++◌, map, Option, Some, None, Ok, Contains, refl, sym, ◌∙◌, ap, subst, ⊎_elim, arith}
-use Rattle.std.specs.Prelude.{IfSome, filter, nat_le, nat_lt, ◌&&◌, IsTrue}
+use Rattle.std.specs.Prelude.{max, IfSome, filter, nat_le, nat_lt, ◌&&◌, IsTrue}
 use Rattle.std.specs.Option.{is_none}
 use Rattle.std.proofs.lemmas.Bool.{and_parts}
 use Rattle.lt_io.specs.Directory.{State, Image, Directory, moment}
+use Rattle.lt_io.specs.Device.{KeepsLent}
 use Rattle.lt_io.specs.Steps.{Steps}
 use Rattle.lt_io.proofs.Moments.{fits_now}
 use Rattle.lt_io.proofs.Chains.{FromOn-now, FromOn-steps, possible_each, PossibleAt-steps}
@@ -116,8 +117,15 @@ module _ (told : Bool) (old middle : Directory) (stone : StoneShape) (lawful : I
       }
 
 -- the faults are counted from before the loading
-pub answered_from : (clock : ℕ → Type 0) (opening held : Opening) (input text : List ℕ) (before middle now : ℕ) → before ≤ middle → IsAnswered clock opening held input text middle now → IsAnswered clock opening held input text before now
-answered_from clock opening held input text before middle now later answered = record { whole = answered.whole; stands = answered.stands; faults = faults_from before _ middle now answered.faults later }
+pub answered_from : (clock : ℕ → Type 0) (opening held : Opening) (input text : List ℕ) (before middle now first free : ℕ) → before ≤ middle → IsAnswered clock opening held input text middle now first free
+    → IsAnswered clock opening held input text before now first free
+answered_from clock opening held input text before middle now first free later answered = record {
+  whole = answered.whole;
+  stands = answered.stands;
+  faults = faults_from before _ middle now answered.faults later;
+  undamaged = answered.undamaged;
+  numbers = answered.numbers;
+}
 
 pub ran_so : (told : Bool) (clock : ℕ → Type 0) (old new : Directory) (input text : List ℕ) (before now : ℕ) → Served told clock old new input text before now → RanOn told old new
 ran_so told clock old new input text before now s = record {
@@ -129,23 +137,27 @@ ran_so told clock old new input text before now s = record {
   stops = s.stops;
 }
 
-pub served : (told : Bool) (clock : ℕ → Type 0) (old middle new : Directory) (opening held : Opening) (input text : List ℕ) (before now : ℕ) → LoadsTable told old opening middle
-    → IsAnswered clock opening held input text before now → StaysKept told opening held middle new → Served told clock old new input text before now
-served told clock old middle new opening held input text before now loads answered stays =
+pub served : (told : Bool) (clock : ℕ → Type 0) (old middle new : Directory) (opening held : Opening) (input text : List ℕ) (before now first free : ℕ) → LoadsTable told old opening middle first
+    → IsAnswered clock opening held input text before now first free → new.now.ceiling ≤ free → StaysKept told opening held middle new → Served told clock old new input text before now
+served told clock old middle new opening held input text before now first free loads answered ceiling stays =
     let stone = loads.stone in
-    let said : IsAnswered clock (opening_of stone) held input text before now = subst (λ (o : Opening). IsAnswered clock o held input text before now) loads.held_is answered in
+    let said : IsAnswered clock (opening_of stone) held input text before now first free = subst (λ (o : Opening). IsAnswered clock o held input text before now first free) loads.held_is answered in
     let kept : StaysKept told (opening_of stone) held middle new = subst (λ (o : Opening). StaysKept told o held middle new) loads.held_is stays in
     record {
       stone = stone;
       loaded = loads.loaded;
       bare = loads.bare;
       held = held;
+      first = first;
+      first_is = loads.free_is;
+      free = free;
+      ceiling = ceiling;
       answered = said;
       stops = stops_open told old middle stone loads.loaded.lawful loads.bare loads.read loads.only loads.no_earlier loads.before new held said.whole.history said.whole.opened said.whole.session.legal said.stands kept;
     }
 
-pub ran_on : (told : Bool) (old middle new : Directory) (opening held : Opening) → LoadsTable told old opening middle → HasHistory opening held → StaysKept told opening held middle new → RanOn told old new
-ran_on told old middle new opening held loads has stays =
+pub ran_on : (told : Bool) (old middle new : Directory) (opening held : Opening) (free : ℕ) → LoadsTable told old opening middle free → HasHistory opening held → StaysKept told opening held middle new → RanOn told old new
+ran_on told old middle new opening held free loads has stays =
     let stone = loads.stone in
     let so_far : HasHistory (opening_of stone) held = subst (λ (o : Opening). HasHistory o held) loads.held_is has in
     let kept : StaysKept told (opening_of stone) held middle new = subst (λ (o : Opening). StaysKept told o held middle new) loads.held_is stays in
@@ -158,8 +170,8 @@ ran_on told old middle new opening held loads has stays =
       stops = stops_open told old middle stone loads.loaded.lawful loads.bare loads.read loads.only loads.no_earlier loads.before new held so_far.history so_far.opened so_far.legal so_far.stands kept;
     }
 
-pub legal_loaded : (told : Bool) (old middle : Directory) (opening : Opening) → LoadsTable told old opening middle → IsLegal (record { opening = opening; entries = [] })
-legal_loaded told old middle opening loads = subst (λ (o : Opening). IsLegal (record { opening = o; entries = [] })) (sym loads.held_is) (legal_at_first loads.stone loads.loaded.lawful)
+pub legal_loaded : (told : Bool) (old middle : Directory) (opening : Opening) (free : ℕ) → LoadsTable told old opening middle free → IsLegal (record { opening = opening; entries = [] })
+legal_loaded told old middle opening free loads = subst (λ (o : Opening). IsLegal (record { opening = o; entries = [] })) (sym loads.held_is) (legal_at_first loads.stone loads.loaded.lawful)
 
 -- ---- loading
 
@@ -167,8 +179,8 @@ if_some : {X : Type 0} (o : Option X) (x : X) (P : X → Type 0) → o ≡ Some 
 if_some o x P e holds = subst (λ o. IfSome o P) e holds
 
 pub loads_table : (told : Bool) (old : Directory) (anchor : Anchored) (next : ℕ) (table : Opening) → IsLoaded told old anchor next → IsAnchored told anchor → IfSome (newest anchor.may) (λ stone. IsTableOf stone table)
-    → (told ≡ true → Steps Narrows old anchor.directory) → (told ≡ true → NothingNew old anchor.directory) → LoadsTable told old table anchor.directory
-loads_table told old anchor next table loaded anchored of steps images =
+    → (told ≡ true → Steps Narrows old anchor.directory) → (told ≡ true → NothingNew old anchor.directory) → KeepsLent old anchor.directory → LoadsTable told old table anchor.directory next
+loads_table told old anchor next table loaded anchored of steps images lent =
     let stone = loaded.stone in
     let is : IsTableOf stone table = if_some (newest anchor.may) stone (λ stone. IsTableOf stone table) (ap newest loaded.may) of in
     record {
@@ -180,4 +192,5 @@ loads_table told old anchor next table loaded anchored of steps images =
       only = λ h. anchored.possible h ∙ ap (map spelled) loaded.may;
       no_earlier = λ h. (steps h).later;
       before = images;
+      free_is = λ h. loaded.next_is h ∙ ap (λ (ceiling : ℕ). max ceiling stone.next_file) lent.ceiling;
     }

@@ -1,6 +1,6 @@
 -- What a table is told where memory ran out, or a change was not published.
-use Rattle.std.proofs.Common.{◌≡◌, ℕ, refl, sym, subst}
-use Rattle.std.specs.Prelude.{Result, Ok, Err, IfOk, IfErr, OnErr}
+use Rattle.std.proofs.Common.{◌≡◌, ◌≤◌, ◌+◌, ℕ, refl, sym, subst}
+use Rattle.std.specs.Prelude.{Result, Ok, Err, IfOk, IfErr, OnErr, IsErrOf}
 use Rattle.lt_rec.specs.declared.no_memory.NoMemory.{NoMemory as NoMemoryError}
 use Rattle.lt_schema.specs.declared.value.Value.{Value}
 use Rattle.std.proofs.Common.{List}
@@ -16,6 +16,7 @@ use Rattle.lt_model.specs.History.{Opening}
 use Rattle.lt_plain.specs.Table.{Answers}
 use Rattle.lt_plain.proofs.Steps.{nothing_added, answers_no_memory_insert, answers_no_memory_scan}
 use Rattle.lt_serve.specs.Kept.{commit_reply}
+use Rattle.lt_serve.specs.Growing.{number_weight}
 
 -- where a call wanted memory, it changed nothing, and the reply says so
 told_or_no_memory : (held new : Opening) (now : ℕ) (command : Command) (answered : Result Reply NoMemoryError) (reply : Reply)
@@ -51,3 +52,17 @@ pub told_change : (held new : Opening) (now : ℕ) (change : Change) (altered : 
 told_change held new now change (Ok r) reply answers unchanged is refused = subst (Answers held new now (Alter change)) (sym is) (answers now)
 told_change held new now change (Err e) reply answers unchanged is refused =
     subst (λ (o : Opening). Answers held o now (Alter change) reply) (sym unchanged) (subst (Answers held held now (Alter change)) (sym refused) (unpublished held change now e))
+
+-- ---- file numbers
+
+-- a publishing that got its number may have used it
+pub used_one : {X : Type 0} (published : Result X CommitError) (old new : ℕ) → (IsErrOf published commit.Spent → ⊥) → new ≤ old + 1 → IfErr published (λ e. new ≤ old + number_weight (commit_reply e))
+used_one (Ok done) old new never used = tt
+used_one (Err commit.Spent) old new never used = absurd (never refl)
+used_one (Err commit.Fault) old new never used = used
+used_one (Err commit.NoMemory) old new never used = used
+
+pub told_numbers : (altered : Result Reply CommitError) (reply : Reply) (old new : ℕ) → IfOk altered (λ r. reply ≡ r) → IfErr altered (λ e. reply ≡ commit_reply e)
+    → IfOk altered (λ r. new ≤ old + number_weight r) → IfErr altered (λ e. new ≤ old + number_weight (commit_reply e)) → new ≤ old + number_weight reply
+told_numbers (Ok r) reply old new is refused used numbers = subst (λ (reply : Reply). new ≤ old + number_weight reply) (sym is) used
+told_numbers (Err e) reply old new is refused used numbers = subst (λ (reply : Reply). new ≤ old + number_weight reply) (sym refused) numbers

@@ -1,16 +1,18 @@
 -- A session over the bytes of its input, after some of its lines.
-use Rattle.std.specs.Prelude.{◌≡◌, ◌+◌, ◌-◌, ◌^◌, ◌≤◌, min, ℕ, Bool, true, List, [], ◌∷◌, ◌++◌, sum_by, Option, Some, None}
+use Rattle.std.specs.Prelude.{◌≡◌, ◌+◌, ◌-◌, ◌^◌, ◌≤◌, min, ℕ, Bool, true, false, IsTrue, List, [], ◌∷◌, ◌++◌, sum_by, All, Option, Some, None}
 use Rattle.std.specs.List.{flat_map}
 use Rattle.lt_lang.specs.Texts.{reply_text_of, client_line}
+use Rattle.lt_lang.specs.declared.command.Command.{Command}
+use Rattle.lt_lang.specs.declared.command.Command.TheVariants.{Alter}
 use Rattle.lt_lang.specs.declared.command.Line.{Line}
 use Rattle.lt_lang.specs.declared.command.Line.TheVariants.{Skip, Bad, Command as CommandLine}
 use Rattle.lt_lang.specs.declared.reply.Reply.{Reply}
-use Rattle.lt_lang.specs.declared.reply.Reply.TheVariants.{BadLine, Fault}
+use Rattle.lt_lang.specs.declared.reply.Reply.TheVariants.{BadLine, Refused, Fault, Spent}
 use Rattle.lt_model.specs.History.{Opening, History}
 use Rattle.lt_model.specs.Legal.{IsLegal}
 use Rattle.lt_model.specs.Session.{Block, IsMoment}
 use Rattle.lt_model.specs.Growing.{SoFar}
-use Rattle.lt_plain.specs.Table.{StandsFor, Answers}
+use Rattle.lt_plain.specs.Table.{StandsFor, Answers, IsUndamaged}
 use Rattle.lt_serve.specs.Session.{lines_of, is_built, IsText}
 
 -- the lines that belong to anybody
@@ -43,6 +45,46 @@ faults_in replies = sum_by fault_weight replies
 abbrev pub AtMostRose : ℕ → ℕ → ℕ → Type 0
 AtMostRose before faults now = min (before + faults) (2 ^ 64 - 1) ≤ now
 
+abbrev pub is_change : Command → Bool
+is_change (Alter change) = true
+is_change _ = false
+
+abbrev pub asks_change : Line → Bool
+asks_change Skip = false
+asks_change (Bad client at) = false
+asks_change (CommandLine client moment command) = is_change command
+
+-- how many file numbers a change may have used up that was told so
+abbrev pub number_weight : Reply → ℕ
+number_weight (Refused why) = 0
+number_weight Spent = 0
+number_weight _ = 1
+
+-- the same of any command, and of any line
+abbrev pub numbers_for : Command → Reply → ℕ
+numbers_for (Alter change) reply = number_weight reply
+numbers_for _ reply = 0
+
+abbrev pub numbers_used : Line → Reply → ℕ
+numbers_used Skip reply = 0
+numbers_used (Bad client at) reply = 0
+numbers_used (CommandLine client moment command) reply = numbers_for command reply
+
+-- a change is told that file numbers are spent only where none from this one on is left
+abbrev pub IsSpentFrom : ℕ → Line → Reply → Type 0
+IsSpentFrom free line reply = IsTrue (asks_change line) → reply ≡ Spent → 2 ^ 62 ≤ free
+
+-- The first free file number before these lines and after them: a change that was neither refused nor told that the numbers
+-- are spent may have used one, and it is told so only where none was left.
+abbrev pub UsesNumbers : ℕ → List Line → List Reply → ℕ → Type 0
+UsesNumbers first [] [] free = free ≤ first
+UsesNumbers first (line ∷ lines) (reply ∷ replies) free = IsSpentFrom first line reply × UsesNumbers (first + numbers_used line reply) lines replies free
+UsesNumbers first _ _ free = ⊥
+
+-- the replies of all blocks
+abbrev pub replies_of : List Block → List Reply
+replies_of blocks = flat_map (λ (block : Block). block.replies) blocks
+
 -- the reply to a line, and what it makes of the table; none where the line belongs to nobody
 abbrev pub Replies : (ℕ → Type 0) → Opening → Opening → Line → Option Reply → Type 0
 Replies clock old new Skip None = new ≡ old
@@ -51,8 +93,9 @@ Replies clock old new (CommandLine client moment command) (Some reply) = (now : 
 Replies clock old new line reply = ⊥
 
 -- These lines are answered: the table holds what their history says, which began with the opening; the text so far is their
--- client's block; and there are at most as many faults among the replies as the count rose since.
-pub record HasAnswered (clock : ℕ → Type 0) (opening held : Opening) (client : Option (List ℕ)) (text : List ℕ) (lines : List Line) (before now : ℕ) : Type 0 where
+-- client's block; there are at most as many faults among the replies as the count rose since, none tells of damage, and
+-- changes used the file numbers from the first on up to the free ones.
+pub record HasAnswered (clock : ℕ → Type 0) (opening held : Opening) (client : Option (List ℕ)) (text : List ℕ) (lines : List Line) (before now first free : ℕ) : Type 0 where
   pub replies : List Reply
   pub history : History
   pub opened : history.opening ≡ opening
@@ -60,18 +103,20 @@ pub record HasAnswered (clock : ℕ → Type 0) (opening held : Opening) (client
   pub so_far : SoFar clock 0 (told lines) replies history
   pub written : text ≡ block_head client ++ flat_map reply_text_of replies
   pub faults : AtMostRose before (faults_in replies) now
+  pub undamaged : All IsUndamaged replies
+  pub numbers : UsesNumbers first (told lines) replies free
 
 -- one line more is answered, behind all that were answered before
-abbrev pub Takes : (ℕ → Type 0) → Opening → Opening → List ℕ → List ℕ → ℕ → ℕ → Line → Type 0
-Takes clock old new text longer before now line =
-    (opening : Opening) (client : Option (List ℕ)) (lines : List Line) (began : ℕ)
-    → HasAnswered clock opening old client text lines began before → HasAnswered clock opening new client longer (lines ++ line ∷ []) began now
+abbrev pub Takes : (ℕ → Type 0) → Opening → Opening → List ℕ → List ℕ → ℕ → ℕ → ℕ → ℕ → Line → Type 0
+Takes clock old new text longer before now free left line =
+    (opening : Opening) (client : Option (List ℕ)) (lines : List Line) (began first : ℕ)
+    → HasAnswered clock opening old client text lines began before first free → HasAnswered clock opening new client longer (lines ++ line ∷ []) began now first left
 
 -- the front of the input that was read is answered so far
-pub record ReadSoFar (clock : ℕ → Type 0) (opening held : Opening) (client : Option (List ℕ)) (input rest text : List ℕ) (before now : ℕ) : Type 0 where
+pub record ReadSoFar (clock : ℕ → Type 0) (opening held : Opening) (client : Option (List ℕ)) (input rest text : List ℕ) (before now first free : ℕ) : Type 0 where
   pub lines : List Line
   pub cut : lines_of input ≡ lines ++ lines_of rest
-  pub answered : HasAnswered clock opening held client text lines before now
+  pub answered : HasAnswered clock opening held client text lines before now first free
 
 -- the table holds what a legal history says that began with the opening
 pub record HasHistory (opening held : Opening) : Type 0 where
@@ -80,9 +125,12 @@ pub record HasHistory (opening held : Opening) : Type 0 where
   pub legal : IsLegal history
   pub stands : StandsFor held history
 
--- all lines are answered by the text, the table holds what their history says, and there are at most as many faults among
--- the replies as the count rose
-pub record IsAnswered (clock : ℕ → Type 0) (opening held : Opening) (input text : List ℕ) (before now : ℕ) : Type 0 where
+-- All lines are answered by the text, and the table holds what their history says. There are at most as many faults among
+-- the replies as the count rose, none tells of damage, and changes used the file numbers from the first on up to the free
+-- ones.
+pub record IsAnswered (clock : ℕ → Type 0) (opening held : Opening) (input text : List ℕ) (before now first free : ℕ) : Type 0 where
   pub whole : IsText clock opening input text
   pub stands : StandsFor held whole.history
-  pub faults : AtMostRose before (sum_by (λ (block : Block). faults_in block.replies) whole.blocks) now
+  pub faults : AtMostRose before (faults_in (replies_of whole.blocks)) now
+  pub undamaged : All IsUndamaged (replies_of whole.blocks)
+  pub numbers : UsesNumbers first (told (lines_of input)) (replies_of whole.blocks) free

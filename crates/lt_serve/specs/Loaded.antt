@@ -1,5 +1,5 @@
 -- The table of a stone without tablets, and the image that has its descriptor.
-use Rattle.std.specs.Prelude.{◌≡◌, Bool, true, [], Some, Ok}
+use Rattle.std.specs.Prelude.{◌≡◌, max, ℕ, Bool, true, [], Some, Ok}
 use Rattle.std.specs.Option.{option_map}
 use Rattle.lt_io.specs.Directory.{Image, Directory}
 use Rattle.lt_desc.specs.Shape.{StoneShape}
@@ -30,3 +30,7 @@ pub record OpensTo (image : Image) (stone : StoneShape) (found : Opening) : Type
 pub record IsLoadedFrom (told : Bool) (directory : Directory) (stone : StoneShape) : Type 0 where
   pub lawful : IsStone stone
   pub exact : told ≡ true → option_map stone_at directory.seen.descriptor ≡ Some (Ok stone)
+
+-- the first free file number: above each that the directory lent or the stone uses
+abbrev pub first_free : Directory → StoneShape → ℕ
+first_free directory stone = max directory.now.ceiling stone.next_file

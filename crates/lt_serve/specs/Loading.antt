@@ -7,7 +7,7 @@ use Rattle.lt_desc.specs.Spelling.{spelling}
 use Rattle.lt_commit.specs.Anchored.{NothingNew}
 use Rattle.lt_model.specs.History.{Opening}
 use Rattle.lt_serve.specs.Session.{HasOtherLine}
-use Rattle.lt_serve.specs.Loaded.{opening_of, IsLoadedFrom}
+use Rattle.lt_serve.specs.Loaded.{opening_of, IsLoadedFrom, first_free}
 use Rattle.lt_serve.specs.declared.status.Status.{Status}
 use Rattle.lt_serve.specs.declared.status.Status.TheVariants.{NoMemory, NotYet}
 
@@ -21,8 +21,9 @@ RefusesTable stone (NotYet line) = (stone.tablets ≡ [] → ⊥) × (line ≡ 0
 RefusesTable stone NoMemory = ⊤
 RefusesTable stone _ = ⊥
 
--- The stone of the directory's descriptor lists no tablet and was made the only possible one; this is its table.
-pub record LoadsTable (told : Bool) (old : Directory) (held : Opening) (directory : Directory) : Type 0 where
+-- The stone of the directory's descriptor lists no tablet and was made the only possible one; this is its table, and this
+-- the first free file number.
+pub record LoadsTable (told : Bool) (old : Directory) (held : Opening) (directory : Directory) (free : ℕ) : Type 0 where
   pub stone : StoneShape
   pub loaded : IsLoadedFrom told old stone
   pub bare : stone.tablets ≡ []
@@ -31,6 +32,7 @@ pub record LoadsTable (told : Bool) (old : Directory) (held : Opening) (director
   pub only : told ≡ true → directory.now.may ≡ Some (spelling stone) ∷ []
   pub no_earlier : told ≡ true → moment old ≤ moment directory
   pub before : told ≡ true → NothingNew old directory
+  pub free_is : told ≡ true → free ≡ first_free old stone
 
 -- why the lines were not answered
 abbrev pub IsInterrupted : Status → List ℕ → Directory → Directory → Type 0

@@ -7,7 +7,7 @@ use Rattle.lt_model.specs.History.{Opening, History}
 use Rattle.lt_model.specs.Readings.{schemas}
 use Rattle.lt_model.specs.Legal.{IsLegal}
 use Rattle.lt_model.specs.Crash.{IsCrash}
-use Rattle.lt_serve.specs.Loaded.{durable_by, opening_of, OpensTo, IsLoadedFrom}
+use Rattle.lt_serve.specs.Loaded.{durable_by, opening_of, OpensTo, IsLoadedFrom, first_free}
 use Rattle.lt_serve.specs.Kept.{Extends}
 use Rattle.lt_serve.specs.Growing.{IsAnswered}
 use Rattle.lt_serve.specs.declared.status.Status.{Status}
@@ -36,13 +36,18 @@ pub record StopsOpen (h : History) (old new : Directory) : Type 0 where
   pub since : (at : ℕ) (image : Image) → loaded ≤ at → PossibleAt new at image → OpensAfter h image
   pub acknowledged : (image : Image) → PossibleAt new (moment new) image → OpensToAll h image
 
--- a session that was answered: the text and the stops are of one history, which began with what the loaded stone tells
+-- A session that was answered: the text and the stops are of one history, which began with what the loaded stone tells;
+-- file numbers were free from the first on, and the ceiling is at most the first that is free now.
 pub record Served (told : Bool) (clock : ℕ → Type 0) (old new : Directory) (input text : List ℕ) (before now : ℕ) : Type 0 where
   pub stone : StoneShape
   pub loaded : IsLoadedFrom told old stone
   pub bare : stone.tablets ≡ []
   pub held : Opening
-  pub answered : IsAnswered clock (opening_of stone) held input text before now
+  pub first : ℕ
+  pub first_is : told ≡ true → first ≡ first_free old stone
+  pub free : ℕ
+  pub ceiling : new.now.ceiling ≤ free
+  pub answered : IsAnswered clock (opening_of stone) held input text before now first free
   pub stops : told ≡ true → StopsOpen answered.whole.history old new
 
 -- a session that loaded a table and got so far

@@ -58,7 +58,7 @@ fn opened<V: Device>(alloc: Global, anchor: &Anchor<V>) -> Result<ListTable, Sta
 
 /// The table that the directory's descriptor tells of. A refusal hands the directory back.
 fn load<V: Device>(alloc: Global, device: &mut V, dir: V::Dir) -> Result<Store<V>, (V::Dir, Status)>
-    ensures ok { IfOk result (λ store. LoadsTable V.honest (V.directory dir) store.table store.anchor.directory) }
+    ensures ok { IfOk result (λ store. LoadsTable V.honest (V.directory dir) store.table store.anchor.directory store.next_file) }
     ensures refused { (input : List ℕ) → IfErr result (λ refused. IsCause refused.1 V.honest (V.directory dir) input) }
     ensures images { V.honest ≡ true → IfErr result (λ refused. NothingNew (V.directory dir) (V.directory refused.0)) }
     ensures cause { Counts (V.faults device.old) (V.faults device.new) (IsErrAnd result (λ refused. refused.1 ≡ Status.DeviceFault)) }
@@ -83,7 +83,7 @@ fn answered<V: Device, C: Clock>(
 ) -> Result<Vec<u8>, Status>
     requires opens { IsLegal (record { opening = store.old.table; entries = [] }) }
     ensures built { OnOk result (IsBuilt input.now) }
-    ensures answered { IfOk result (λ text. IsAnswered (C.shows clock.now) store.old.table store.new.table input.now text.items (V.faults device.old) (V.faults device.new)) }
+    ensures answered { IfOk result (λ text. IsAnswered (C.shows clock.now) store.old.table store.new.table input.now text.items (V.faults device.old) (V.faults device.new) store.old.next_file store.new.next_file) }
     ensures refused { IfErr result (λ status. IsInterrupted status input.now store.old.anchor.directory store.new.anchor.directory) }
     ensures history { HasHistory store.old.table store.new.table }
     ensures kept { StaysKept V.honest store.old.table store.new.table store.old.anchor.directory store.new.anchor.directory }

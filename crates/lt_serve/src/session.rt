@@ -1,12 +1,13 @@
 //! A session: each line in turn, answered by the table at the end of its history.
-ghost use Rattle.std.specs.Prelude.{◌≡◌, ◌++◌, ◌∷◌, [], IsTrue, IfOk, OnOk, Some, ◌≤◌};
+ghost use Rattle.std.specs.Prelude.{◌≡◌, ◌++◌, ◌∷◌, ◌+◌, [], IsTrue, IfOk, OnOk, IfSome, IfNone, Some, ◌≤◌};
 ghost use Rattle.lt_io.specs.Device.{Counts};
 ghost use Rattle.lt_model.specs.Session.{IsMoment};
 ghost use Rattle.lt_model.specs.Legal.{IsLegal};
 ghost use Rattle.lt_model.specs.History.{Opening};
+ghost use Rattle.lt_plain.specs.Table.{IsUndamaged};
 ghost use Rattle.lt_serve.specs.Session.{lines_of, client_of, IsBuilt};
 ghost use Rattle.lt_serve.specs.Kept.{StaysKept};
-ghost use Rattle.lt_serve.specs.Growing.{asks_built, block_head, Replies, Takes, HasHistory, IsAnswered};
+ghost use Rattle.lt_serve.specs.Growing.{asks_built, block_head, numbers_used, IsSpentFrom, Replies, Takes, HasHistory, IsAnswered};
 
 use crate::store::Store;
 use lt_io::{Clock, Device};
@@ -35,6 +36,10 @@ fn reply_to<V: Device, C: Clock>(
     requires built { IsTrue (asks_built line) }
     ensures answered { Replies (C.shows clock.now) store.old.table store.new.table line result }
     ensures kept { StaysKept V.honest store.old.table store.new.table store.old.anchor.directory store.new.anchor.directory }
+    ensures undamaged { IfSome result IsUndamaged }
+    ensures spent { IfSome result (IsSpentFrom store.old.next_file line) }
+    ensures used { IfSome result (λ reply. store.new.next_file ≤ store.old.next_file + numbers_used line reply) }
+    ensures unused { IfNone result (store.new.next_file ≡ store.old.next_file) }
     ensures cause { Counts (V.faults device.old) (V.faults device.new) (result ≡ Some Reply.Fault) }
 {
     match line {
@@ -60,7 +65,7 @@ fn answer_line<V: Device, C: Clock>(
     line: Line,
 ) -> Result<(), NoMemory>
     requires built { IsTrue (asks_built line) }
-    ensures takes { OnOk result (Takes (C.shows clock.now) store.old.table store.new.table text.old.items text.new.items (V.faults device.old) (V.faults device.new) line) }
+    ensures takes { OnOk result (Takes (C.shows clock.now) store.old.table store.new.table text.old.items text.new.items (V.faults device.old) (V.faults device.new) store.old.next_file store.new.next_file line) }
     ensures history { (opening : Opening) → HasHistory opening store.old.table → HasHistory opening store.new.table }
     ensures kept { StaysKept V.honest store.old.table store.new.table store.old.anchor.directory store.new.anchor.directory }
     ensures later { V.faults device.old ≤ V.faults device.new }
@@ -94,7 +99,7 @@ pub fn session_over<V: Device, C: Clock>(
     requires opens { IsLegal (record { opening = store.old.table; entries = [] }) }
     requires built { IsBuilt input.now }
     requires client { client ≡ client_of (lines_of input.now) }
-    ensures answered { IfOk result (λ text. IsAnswered (C.shows clock.now) store.old.table store.new.table input.now text.items (V.faults device.old) (V.faults device.new)) }
+    ensures answered { IfOk result (λ text. IsAnswered (C.shows clock.now) store.old.table store.new.table input.now text.items (V.faults device.old) (V.faults device.new) store.old.next_file store.new.next_file) }
     ensures history { HasHistory store.old.table store.new.table }
     ensures kept { StaysKept V.honest store.old.table store.new.table store.old.anchor.directory store.new.anchor.directory }
     ensures later { V.faults device.old ≤ V.faults device.new }

@@ -1,5 +1,6 @@
 //! A table, and the directory whose descriptor tells of it.
-ghost use Rattle.std.specs.Prelude.{◌≡◌, ◌≤◌, ◌<◌, ◌^◌, IsTrue, IfOk, IfErr, OnErr};
+ghost use Rattle.std.specs.Prelude.{◌≡◌, ◌≢◌, ◌≤◌, ◌<◌, ◌^◌, IsTrue, IfOk, IfErr, OnErr, IsErrOf};
+ghost use Rattle.lt_plain.specs.Table.{IsUndamaged};
 ghost use Rattle.lt_serve.specs.Kept.{commit_reply, is_life};
 
 use lt_commit::{Anchor, CommitError};
@@ -29,6 +30,7 @@ pub struct Store<V: Device> {
 fn told(answered: Result<Reply, NoMemory>) -> Reply
     ensures reply { IfOk answered (λ reply. result ≡ reply) }
     ensures no_memory { OnErr answered (result ≡ Reply.NoMemory) }
+    ensures undamaged { IfOk answered IsUndamaged → IsUndamaged result }
 {
     match answered {
         Ok(reply) => reply,
@@ -40,6 +42,8 @@ fn told(answered: Result<Reply, NoMemory>) -> Reply
 fn change_told(altered: Result<Reply, CommitError>) -> Reply
     ensures reply { IfOk altered (λ reply. result ≡ reply) }
     ensures refused { IfErr altered (λ refused. result ≡ commit_reply refused) }
+    ensures undamaged { IfOk altered IsUndamaged → IsUndamaged result }
+    ensures spent { IfOk altered (λ reply. reply ≢ Reply.Spent) → result ≡ Reply.Spent → IsErrOf altered CommitError.Spent }
 {
     match altered {
         Ok(reply) => reply,
@@ -50,15 +54,16 @@ fn change_told(altered: Result<Reply, CommitError>) -> Reply
 }
 
 impl<V: Device> Store<V> {
-    ghost use Rattle.std.specs.Prelude.{◌≡◌, ◌≢◌, ◌≤◌, ◌<◌, ◌+◌, ◌^◌, ◌∷◌, [], ℕ, true, Some, Ok, None, IfOk, OnOk, OnErr, IsErrOf, IsTrue};
+    ghost use Rattle.std.specs.Prelude.{◌≡◌, ◌≢◌, ◌≤◌, ◌<◌, ◌+◌, ◌^◌, ◌∷◌, [], ℕ, true, Some, Ok, None, IfOk, IfErr, OnOk, OnErr, IsErrOf, IsTrue};
     ghost use Rattle.lt_io.specs.Device.{Counts};
     ghost use Rattle.lt_io.specs.Steps.{Steps};
     ghost use Rattle.lt_desc.specs.Lawful.{IsStone};
     ghost use Rattle.lt_desc.specs.Spelling.{spelling};
     ghost use Rattle.lt_lang.specs.declared.command.Command.TheVariants.{Alter};
-    ghost use Rattle.lt_plain.specs.Table.{Answers};
+    ghost use Rattle.lt_plain.specs.Table.{Answers, IsUndamaged};
     ghost use Rattle.lt_serve.specs.Session.{is_built};
-    ghost use Rattle.lt_serve.specs.Kept.{Renews, TellsOf, AllTell, Extends, StaysKept, head_of};
+    ghost use Rattle.lt_serve.specs.Growing.{is_change, number_weight, numbers_for};
+    ghost use Rattle.lt_serve.specs.Kept.{commit_reply, Renews, TellsOf, AllTell, Extends, StaysKept, head_of};
 
     /// A table, the anchor of its directory, and the next free file number.
     pub fn new(table: ListTable, anchor: Anchor<V>, next_file: u64) -> Store<V>
@@ -69,6 +74,7 @@ impl<V: Device> Store<V> {
         requires in_range { next_file ≤ 2 ^ 62 }
         ensures table { result.table ≡ table }
         ensures directory { result.anchor.directory ≡ anchor.directory }
+        ensures number { result.next_file ≡ next_file }
     {
         Store {
             table,
@@ -85,7 +91,8 @@ impl<V: Device> Store<V> {
 
     /// The directory given back.
     pub fn into_dir(self) -> V::Dir
-        ensures { V.directory result ≡ self.anchor.directory }
+        ensures same { V.directory result ≡ self.anchor.directory }
+        ensures ceiling { (V.directory result).now.ceiling ≤ self.next_file }
     {
         let Store {
             table: _table,
@@ -125,6 +132,8 @@ impl<V: Device> Store<V> {
         ensures lost { V.honest ≡ true → Extends self.old.table.schemas schemas → AllTell self.old.table self.old.anchor.directory.now → AllTell self.old.table self.new.anchor.directory.now }
         ensures spent { IsErrOf result CommitError.Spent → 2 ^ 62 ≤ self.old.next_file }
         ensures unspent { OnOk result (self.old.next_file < 2 ^ 62) }
+        ensures used { OnOk result (self.new.next_file ≤ self.old.next_file + 1) }
+        ensures numbers { IfErr result (λ refused. self.new.next_file ≤ self.old.next_file + number_weight (commit_reply refused)) }
         ensures cause { Counts (V.faults device.old) (V.faults device.new) (IsErrOf result CommitError.Fault) }
     {
         let file = self.next_file;
@@ -147,8 +156,12 @@ impl<V: Device> Store<V> {
         ensures answered { IfOk result (λ reply. (now : ℕ) → Answers self.old.table self.new.table now (Alter change.now) reply) }
         ensures unchanged { OnErr result (self.new.table ≡ self.old.table) }
         ensures kept { StaysKept V.honest self.old.table self.new.table self.old.anchor.directory self.new.anchor.directory }
-        ensures plain { IfOk result (λ reply. (reply ≢ Reply.Fault) × (reply ≢ Reply.Spent)) }
+        ensures no_fault { IfOk result (λ reply. reply ≢ Reply.Fault) }
+        ensures unspent { IfOk result (λ reply. reply ≢ Reply.Spent) }
+        ensures undamaged { IfOk result IsUndamaged }
         ensures spent { IsErrOf result CommitError.Spent → 2 ^ 62 ≤ self.old.next_file }
+        ensures used { IfOk result (λ reply. self.new.next_file ≤ self.old.next_file + number_weight reply) }
+        ensures numbers { IfErr result (λ refused. self.new.next_file ≤ self.old.next_file + number_weight (commit_reply refused)) }
         ensures cause { Counts (V.faults device.old) (V.faults device.new) (IsErrOf result CommitError.Fault) }
     {
         if let Err(why) = self.table.schemas().admits(change) {
@@ -165,6 +178,9 @@ impl<V: Device> Store<V> {
         requires built { IsTrue (is_built command) }
         ensures answered { Answers self.old.table self.new.table now command result }
         ensures kept { StaysKept V.honest self.old.table self.new.table self.old.anchor.directory self.new.anchor.directory }
+        ensures undamaged { IsUndamaged result }
+        ensures spent { IsTrue (is_change command) → result ≡ Reply.Spent → 2 ^ 62 ≤ self.old.next_file }
+        ensures numbers { self.new.next_file ≤ self.old.next_file + numbers_for command result }
         ensures cause { Counts (V.faults device.old) (V.faults device.new) (result ≡ Reply.Fault) }
     {
         match command {

@@ -1,7 +1,10 @@
-use Rattle.std.proofs.Common.{◌≡◌, ◌++◌, ◌∷◌, [], sym, ◌∙◌, ap, subst, rules}
+use Rattle.std.proofs.Common.{◌≡◌, ◌≤◌, ◌+◌, ◌++◌, ◌∷◌, [], sym, ◌∙◌, ap, subst, rules}
 use Rattle.lt_schema.specs.Versions.{SchemaVersions}
+use Rattle.lt_lang.specs.declared.reply.Reply.{Reply}
 use Rattle.lt_model.specs.History.{Opening}
+use Rattle.lt_plain.specs.Table.{IsUndamaged}
 use Rattle.lt_serve.specs.Kept.{head_of, AllTell}
+use Rattle.lt_serve.specs.Growing.{number_weight}
 use Rattle.lt_serve.proofs.Renewing.{stays_none, extends_one}
 use Rattle.lt_serve.proofs.store.Store.alter.Goals as goal
 
@@ -39,3 +42,10 @@ returns-clause-kept g c =
       all_tell = λ h tells. subst (λ (o : Opening). AllTell o c.publish.new.self.anchor.directory.now) (sym is)
           (subst (λ (v : SchemaVersions). AllTell (record held { schemas = v }) c.publish.new.self.anchor.directory.now) copied (c.in_ok-publish.ensures.published h));
     }
+
+pub returns-clause-undamaged : goal.returns-clause-undamaged
+returns-clause-undamaged g c = subst IsUndamaged (sym c.replace_schemas.ensures.version) tt
+
+pub returns-clause-used : goal.returns-clause-used
+returns-clause-used g c =
+    subst (λ (reply : Reply). c.publish.new.self.next_file ≤ c.args.self.now.next_file + number_weight reply) (sym c.replace_schemas.ensures.version) c.in_ok-publish.ensures.used

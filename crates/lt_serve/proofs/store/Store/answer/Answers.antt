@@ -1,7 +1,8 @@
-use Rattle.std.proofs.Common.{sym, subst}
+use Rattle.std.proofs.Common.{◌≤◌, ◌+◌, sym, subst}
 use Rattle.lt_lang.specs.declared.command.Command.{Command}
 use Rattle.lt_plain.specs.Table.{Answers}
-use Rattle.lt_serve.proofs.Told.{told_insert, told_scan, told_change}
+use Rattle.lt_serve.specs.Growing.{numbers_for}
+use Rattle.lt_serve.proofs.Told.{told_insert, told_scan, told_change, told_numbers}
 use Rattle.lt_serve.proofs.Renewing.{stays_none, stays_rest}
 use Rattle.lt_serve.proofs.store.Store.answer.Goals as goal
 
@@ -25,3 +26,10 @@ pub returns-in-Alter-clause-answered : goal.returns-in-Alter-clause-answered
 returns-in-Alter-clause-answered g c =
     subst (λ (command : Command). Answers c.args.self.now.table c.alter.new.self.table c.args.now command c.change_told.result) (sym c.in-Alter.is)
     (told_change c.args.self.now.table c.alter.new.self.table c.args.now c.in-Alter.change c.alter.result c.change_told.result c.alter.ensures.answered c.alter.ensures.unchanged c.change_told.ensures.reply c.change_told.ensures.refused)
+
+pub returns-in-Alter-clause-numbers : goal.returns-in-Alter-clause-numbers
+returns-in-Alter-clause-numbers g c =
+    let old = c.args.self.now.next_file in
+    let new = c.alter.new.self.next_file in
+    subst (λ (command : Command). new ≤ old + numbers_for command c.change_told.result) (sym c.in-Alter.is)
+    (told_numbers c.alter.result c.change_told.result old new c.change_told.ensures.reply c.change_told.ensures.refused c.alter.ensures.used c.alter.ensures.numbers)

@@ -1,3 +1,5 @@
+use Rattle.std.proofs.Common.{arith}
+use Rattle.lt_serve.proofs.Told.{used_one}
 use Rattle.lt_serve.proofs.Renewing.{stays_none, renewed, tell_still, tell_published}
 use Rattle.lt_serve.proofs.store.Store.publish.Goals as goal
 
@@ -18,3 +20,6 @@ pub returns-clause-lost : goal.returns-clause-lost
 returns-clause-lost g c = λ h more all.
     tell_still c.args.self.now.table c.args.self.now.next_file c.args.schemas c.stone_under-stone.result c.stone_under-stone.ensures.parts c.stone_under-stone.ensures.lawful
     _ _ more (c.publish.ensures.readable h) (c.publish.ensures.any_moment h) all
+
+pub returns-clause-numbers : goal.returns-clause-numbers
+returns-clause-numbers g c = used_one c.publish.result c.args.self.now.next_file _ c.publish.ensures.never_spent (omega arith)
