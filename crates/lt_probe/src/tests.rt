@@ -1,15 +1,18 @@
+mod stems;
+
 ghost use Rattle.std.specs.Prelude.{◌≡◌, ◌<◌, ◌^◌, IfOk};
 
 use super::*;
 use lt_io::{Device, DeviceError};
 use lt_memdev::{Fail as Failing, MemDevice, MemDir, MemReader, Op};
-use lt_rec::{Listed, Period, Steps};
+use lt_rec::{Listed, Period, Rec, Steps};
 use lt_tablet::{ReadError, Tablet};
 use std::alloc::Global;
 use std::marker::Brand;
 use std::sync::Arc;
 use std::sync::ledger::{Blank, Ledger};
 use std::test::Fail;
+use stems::{best_of, is_whole};
 
 // Keys are a byte and a timestamp. One block: a5 and b6, numbered 0 and 1.
 static OLDER: [u8; 203] = [
@@ -78,9 +81,40 @@ fn sealed(alloc: Global, file: u64, bytes: &[u8]) -> Result<MemReader, DeviceErr
 enum Ask {
     Key(&'static [u8]),
     Prefix(&'static [u8], u64),
+    /// A whole stem, from a timestamp on, and the key and number of the best record so far.
+    Stem(&'static [u8], u64, Option<(&'static [u8], u64)>),
 }
 
 type Answer = Result<Option<u64>, ReadError>;
+
+fn numbered(answer: Result<Option<Rec>, ReadError>) -> Answer {
+    match answer {
+        Ok(Some(rec)) => Ok(Some(rec.seq())),
+        Ok(None) => Ok(None),
+        Err(why) => Err(why),
+    }
+}
+
+/// What is answered for a whole stem; an error where it isn't one, or the best record so far isn't asked for.
+fn of_stem<V: Device, L: Ledger>(
+    alloc: Global,
+    loads: &mut V,
+    dev: &mut V,
+    stem: &[u8],
+    since: u64,
+    best: Option<(&[u8], u64)>,
+    tablets: &[Arc<Tablet<V>>],
+    steps: &mut Steps<L>,
+) -> Result<Answer, Fail> {
+    if !is_whole(alloc, loads, tablets, stem, steps)? {
+        return Err("a longer stem begins with this one".into());
+    }
+    let best = match best {
+        Some((key, seq)) => best_of(alloc, stem, since, key, seq)?,
+        None => None,
+    };
+    Ok(numbered(latest(alloc, dev, stem, true, since, tablets, best, steps)))
+}
 
 /// What is answered over both tablets, of which the newer one comes first where it is so asked.
 fn answer<V: Device, L: Ledger>(
@@ -105,21 +139,27 @@ fn answer<V: Device, L: Ledger>(
     }
     match ask {
         Ask::Key(key) => Ok(present(alloc, dev, key, tablets.as_slice(), steps)),
-        Ask::Prefix(prefix, since) => {
-            match latest(
+        Ask::Prefix(prefix, since) => Ok(numbered(latest(
+            alloc,
+            dev,
+            prefix,
+            false,
+            since,
+            tablets.as_slice(),
+            None,
+            steps,
+        ))),
+        Ask::Stem(stem, since, best) => {
+            of_stem(
                 alloc,
+                loads,
                 dev,
-                prefix,
-                false,
+                stem,
                 since,
+                best,
                 tablets.as_slice(),
-                None,
                 steps,
-            ) {
-                Ok(Some(rec)) => Ok(Ok(Some(rec.seq()))),
-                Ok(None) => Ok(Ok(None)),
-                Err(why) => Ok(Err(why)),
-            }
+            )
         }
     }
 }
@@ -161,6 +201,8 @@ static A9: [u8; 9] = [b'a', 0, 0, 0, 0, 0, 0, 0, 9];
 
 static A4: [u8; 9] = [b'a', 0, 0, 0, 0, 0, 0, 0, 4];
 
+static A12: [u8; 9] = [b'a', 0, 0, 0, 0, 0, 0, 0, 12];
+
 static C9: [u8; 9] = [b'c', 0, 0, 0, 0, 0, 0, 0, 9];
 
 static X5: [u8; 9] = [b'x', 0, 0, 0, 0, 0, 0, 0, 5];
@@ -184,6 +226,38 @@ fn keys_and_prefixes(rt: HostRuntime) -> Result<(), Fail> {
         for newer_first in [false, true] {
             let given = found(rt.alloc(), &[], newer_first, ask)?;
             assert_eq!(rt; given, Ok(wanted), "{ask:?}, the newer first {newer_first}");
+        }
+    }
+    Ok(())
+}
+
+#[test]
+fn whole_stems(rt: HostRuntime) -> Result<(), Fail> {
+    let cases: [(
+        &'static [u8],
+        u64,
+        Option<(&'static [u8], u64)>,
+        Option<u64>,
+    ); 10] = [
+        (b"a", 0, None, Some(3)),
+        (b"a", 9, None, Some(3)),
+        (b"a", 10, None, None),
+        (b"a", 0, Some((&A4, 7)), Some(3)),
+        (b"a", 0, Some((&A12, 7)), Some(7)),
+        (b"a", 10, Some((&A12, 7)), Some(7)),
+        (b"b", 0, None, Some(1)),
+        (b"c", 0, Some((&C9, 4)), Some(4)),
+        (b"x", 0, None, None),
+        (b"x", 0, Some((&X5, 8)), Some(8)),
+    ];
+    for (stem, since, best, wanted) in cases {
+        for newer_first in [false, true] {
+            let given = found(rt.alloc(), &[], newer_first, Ask::Stem(stem, since, best))?;
+            assert_eq!(rt;
+                given,
+                Ok(wanted),
+                "{stem:?} from {since}, best {best:?}, the newer first {newer_first}"
+            );
         }
     }
     Ok(())
