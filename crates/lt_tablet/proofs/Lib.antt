@@ -2,6 +2,7 @@ pub mod Asked
 pub mod FooterText
 pub mod IndexText
 pub mod Own
+pub mod Moments
 pub mod Seen
 pub mod Sums
 pub mod Blocks

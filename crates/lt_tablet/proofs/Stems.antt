@@ -42,15 +42,14 @@ hashes_more recs r = hashes_push None recs r ∙ ap (λ (o : Option (List ℕ)).
 abbrev made : Totals → List ℕ → Found
 made totals hashes = record { totals = totals; hashes = hashes }
 
-pub found_more : (recs : List Record) (r : Record) (key stem : List ℕ) (before : Option (List ℕ)) (t : Totals) (old hashes : List ℕ) → r.key ≡ key → stem ≡ stem_of key → before ≡ last_of recs → t ≡ totals_of (recs ++ r ∷ []) → old ≡ hashes_from None recs
-    → hashes ≡ old ++ cond (differs (option_map stem_of before) stem) (hash_of stem ∷ []) [] → made t hashes ≡ found_in (recs ++ r ∷ [])
-found_more recs r key stem before t old hashes k m b s o h =
-    let same : stem ≡ stem_of r.key = m ∙ ap stem_of (sym k) in
+pub found_more : (recs : List Record) (r : Record) (stem : List ℕ) (is_new : Bool) (t : Totals) (old hashes : List ℕ) → stem_of r.key ≡ stem → is_new ≡ differs (option_map stem_of (last_of recs)) stem → t ≡ totals_of (recs ++ r ∷ []) → old ≡ hashes_from None recs
+    → hashes ≡ old ++ cond is_new (hash_of stem ∷ []) [] → made t hashes ≡ found_in (recs ++ r ∷ [])
+found_more recs r stem is_new t old hashes m b s o h =
     ap (λ (v : Totals). made v hashes) s
     ∙ ap (made (totals_of (recs ++ r ∷ []))) (h
-    ∙ (ap (λ (v : List ℕ). v ++ step (option_map stem_of before) stem) o
-    ∙ (ap (λ (v : Option (List ℕ)). hashes_from None recs ++ step (option_map stem_of v) stem) b
-    ∙ (ap (λ (v : List ℕ). hashes_from None recs ++ step (option_map stem_of (last_of recs)) v) same
+    ∙ (ap (λ (v : List ℕ). v ++ cond is_new (hash_of stem ∷ []) []) o
+    ∙ (ap (λ (v : Bool). hashes_from None recs ++ cond v (hash_of stem ∷ []) []) b
+    ∙ (ap (λ (v : List ℕ). hashes_from None recs ++ step (option_map stem_of (last_of recs)) v) (sym m)
     ∙ sym (hashes_more recs r)))))
 
 pub last_of_push : (recs : List Record) (r : Record) → last_of (recs ++ r ∷ []) ≡ Some r.key

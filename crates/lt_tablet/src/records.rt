@@ -1,6 +1,7 @@
 //! The records of a block in its tablet: those of a block, with what the tablet asks of each.
-ghost use Rattle.std.specs.Prelude.{◌≡◌, ◌≤◌, ◌+◌, ◌^◌, ◌&&◌, ◌||◌, nat_le, nat_lt, take, drop, length, Err, IfOk, IfErr};
+ghost use Rattle.std.specs.Prelude.{◌≡◌, ℕ, ◌<◌, ◌≤◌, ◌+◌, ◌^◌, ◌&&◌, ◌||◌, nat_eq, nat_le, nat_lt, take, drop, get_or, length, Err, IfOk, IfErr};
 ghost use Rattle.std.specs.Int.{w64, from_be_bytes};
+ghost use Rattle.std.specs.Cmp.Lexicographic.{pointwise};
 ghost use Rattle.lt_rec.specs.Record.{stem_of, time_of, stored_len};
 ghost use Rattle.lt_rec.specs.Bytes.{is_less};
 ghost use Rattle.lt_block.specs.Reading.{Reads, is_key_len, record_at};
@@ -13,10 +14,12 @@ use lt_block::{Fault, RecView, bytes_of, record_of, u32_at, u64_at};
 use lt_rec::Rec;
 use std::cmp::Ordering;
 
-/// What is asked of a record when its block is checked: its key, its timestamp and number, and the bytes after it.
+/// What is asked of a record when its block is checked: its key, whether the key before has the same stem, its timestamp
+/// and number, and the bytes after it.
 #[derive(Drop)]
 pub struct Seen<'a> {
     pub key: &'a [u8],
+    pub is_alike: bool,
     pub ts: u64,
     pub seq: u64,
     pub rest: &'a [u8],
@@ -41,6 +44,7 @@ fn time_of(key: &[u8]) -> u64
 }
 
 /// Its timestamp is within the bounds, and the first and the last key of a block are those of its entry.
+#[inline(always)]
 fn key_suits(totals: &Totals, entry: &IndexEntry, left: u32, last: &[u8], key: &[u8]) -> bool
     requires { 8 ≤ length key.now }
     ensures { result ≡ suits_key totals.now entry.now left last.now key.now }
@@ -103,16 +107,43 @@ fn are_fit(key_len: u32, body_len: u32, seq: u64) -> bool
     is_key_length(key_len) && (body_len <= Rec::LONGEST_BODY as u32 && seq < Rec::SEQ_END)
 }
 
-fn rises(last: &[u8], key: &[u8]) -> bool
+/// The two keys have the same stem.
+fn are_alike(last: &[u8], key: &[u8]) -> bool
+    ensures { result ≡ pointwise nat_eq (stem_of last.now) (stem_of key.now) }
+{
+    stem_of(last) == stem_of(key)
+}
+
+/// Of two keys with one stem the later one comes after.
+fn is_later(last: &[u8], key: &[u8]) -> bool
+    requires last { (i : ℕ) → get_or last.now i 0 < 256 }
+    requires key { (i : ℕ) → get_or key.now i 0 < 256 }
+    requires long_enough { 8 ≤ length key.now }
+    requires len { length last.now ≡ length key.now }
+    requires stems { stem_of last.now ≡ stem_of key.now }
     ensures { result ≡ is_less last.now key.now }
 {
-    last.cmp(key) == Ordering::Less
+    time_of(last) < time_of(key)
+}
+
+/// The key comes after the one before it.
+fn rises(is_alike: bool, last: &[u8], key: &[u8]) -> bool
+    requires long_enough { 8 ≤ length key.now }
+    requires stems { is_alike ≡ pointwise nat_eq (stem_of last.now) (stem_of key.now) }
+    ensures { result ≡ is_less last.now key.now }
+{
+    if is_alike && last.len() == key.len() {
+        is_later(last, key)
+    } else {
+        last.cmp(key) == Ordering::Less
+    }
 }
 
 /// The record that the bytes begin with, where it is one of a block; a fault tells nothing of where it lies.
 fn seen_of<'a>(at: u64, last: &[u8], bytes: &'a [u8]) -> Result<Seen<'a>, Fault>
     requires { at ≤ 65536 }
-    ensures { IfOk result (λ x. Sees (record_at at last.now bytes.now) (length bytes.now) x.key.now x.ts x.seq x.rest.now) }
+    ensures seen { IfOk result (λ x. Sees (record_at at last.now bytes.now) (length bytes.now) x.key.now x.ts x.seq x.rest.now) }
+    ensures alike { IfOk result (λ x. x.is_alike ≡ pointwise nat_eq (stem_of last.now) (stem_of x.key.now)) }
 {
     let (key_len, rest) = u32_at(at, bytes)?;
     let (body_len, rest) = u32_at(at + 4, rest)?;
@@ -121,12 +152,21 @@ fn seen_of<'a>(at: u64, last: &[u8], bytes: &'a [u8]) -> Result<Seen<'a>, Fault>
     let (key, rest) = bytes_of(key_len as usize, at + 20, rest)?;
     let (_body, rest) = bytes_of(body_len as usize, at + 20 + key_len as u64, rest)?;
     holds(are_fit(key_len, body_len, seq), at)?;
-    holds(rises(last, key), at)?;
+    let is_alike = are_alike(last, key);
+    holds(rises(is_alike, last, key), at)?;
     let ts = time_of(key);
-    Ok(Seen { key, ts, seq, rest })
+    Ok(Seen {
+        key,
+        is_alike,
+        ts,
+        seq,
+        rest,
+    })
 }
 
 /// The record that the bytes begin with, asked field by field: its fault is the first one.
+#[cold]
+#[inline(never)]
 #[tactic(auto, unfolding(crate::specs::Reading::own_record_at))]
 fn first_fault_of<'a>(
     totals: &Totals,
@@ -162,6 +202,7 @@ pub fn own_record_of<'a>(
 ) -> Result<Seen<'a>, Fault>
     requires { at ≤ 65536 }
     ensures seen { IfOk result (λ x. Sees (own_record_at totals.now entry.now left at last.now bytes.now) (length bytes.now) x.key.now x.ts x.seq x.rest.now) }
+    ensures alike { IfOk result (λ x. x.is_alike ≡ pointwise nat_eq (stem_of last.now) (stem_of x.key.now)) }
     ensures fault { IfErr result (λ fault. own_record_at totals.now entry.now left at last.now bytes.now ≡ Err fault.at) }
     ensures within { IfErr result (λ fault. fault.at ≤ at + length bytes.now) }
 {
@@ -173,6 +214,7 @@ pub fn own_record_of<'a>(
     let (rec, rest) = first_fault_of(totals, entry, left, at, last, bytes)?;
     Ok(Seen {
         key: rec.key(),
+        is_alike: are_alike(last, rec.key()),
         ts: rec.ts(),
         seq: rec.seq(),
         rest,

@@ -1,5 +1,5 @@
 //! One pass over a block: are its records those that the tablet asks for, and what are they together with those before?
-ghost use Rattle.std.specs.Prelude.{◌≡◌, ◌<◌, ◌≤◌, ◌++◌, ◌∷◌, [], List, Ok, Some, OnOk, IfErr, option_copied, option_map, length, if◌then◌else◌};
+ghost use Rattle.std.specs.Prelude.{◌≡◌, ◌<◌, ◌≤◌, ◌++◌, ◌∷◌, [], List, Ok, Some, OnOk, IfErr, option_copied, option_map, not, length, if◌then◌else◌};
 ghost use Rattle.lt_rec.specs.Record.{Record, stem_of};
 ghost use Rattle.lt_bloom.specs.Hash.{hash_of};
 ghost use Rattle.lt_block.specs.Reading.{Fails, block_at};
@@ -9,7 +9,7 @@ ghost use Rattle.lt_tablet.specs.Surveying.{Checks, IsWithin, last_of, found_in}
 
 use crate::footer::holds;
 use crate::index::IndexEntry;
-use crate::records::{own_record_of, stem_of};
+use crate::records::{Seen, own_record_of, stem_of};
 use crate::totals::Totals;
 use lt_block::{BlockError, Fault, u32_at};
 use lt_bloom::stem_hash;
@@ -65,16 +65,23 @@ impl Survey {
         ensures { OnOk result ((recs : List Record) (r : Record) → r.key ≡ key.now → r.ts ≡ ts → r.seq ≡ seq → option_copied before.entry ≡ last_of recs → self.old ≡ found_in recs → self.new ≡ found_in (recs ++ r ∷ [])) }
     {
         let stem = stem_of(key);
-        note_stem(&mut self.hashes, before, stem)?;
+        self.note(is_new(before, stem), stem, ts, seq)
+    }
+
+    /// The same of a record with this stem, which is new where the one before has another or none is before.
+    pub fn note(&mut self, is_new: bool, stem: &[u8], ts: u64, seq: u64) -> Result<(), NoMemory>
+        ensures { OnOk result ((recs : List Record) (r : Record) → stem_of r.key ≡ stem.now → r.ts ≡ ts → r.seq ≡ seq → is_new ≡ differs (option_map stem_of (last_of recs)) stem.now → self.old ≡ found_in recs → self.new ≡ found_in (recs ++ r ∷ [])) }
+    {
+        note_stem(&mut self.hashes, is_new, stem)?;
         self.totals.add(ts, seq)
     }
 }
 
-/// A hash for a stem that differs from that of the key before it.
-fn note_stem(hashes: &mut Vec<u64>, before: Option<&[u8]>, stem: &[u8]) -> Result<(), NoMemory>
-    ensures { OnOk result (hashes.new.items ≡ hashes.old.items ++ (if differs (option_map stem_of (option_copied before.entry)) stem.now then hash_of stem.now ∷ [] else [])) }
+/// A hash for a stem that is new.
+fn note_stem(hashes: &mut Vec<u64>, is_new: bool, stem: &[u8]) -> Result<(), NoMemory>
+    ensures { OnOk result (hashes.new.items ≡ hashes.old.items ++ (if is_new then hash_of stem.now ∷ [] else [])) }
 {
-    if is_new(before, stem) {
+    if is_new {
         hashes.push(stem_hash(stem))?;
     }
     Ok(())
@@ -87,6 +94,18 @@ fn is_new(before: Option<&[u8]>, stem: &[u8]) -> bool
     match before {
         Some(key) => stem_of(key) != stem,
         None => true,
+    }
+}
+
+/// The record's stem is new: the first of a block is asked, of the others it was seen.
+fn starts_stem(done: u32, known: Option<&[u8]>, stem: &[u8], seen: &Seen<'_>) -> bool
+    requires { 0 < done → not seen.now.is_alike ≡ differs (option_map stem_of (option_copied known)) stem.now }
+    ensures { result ≡ differs (option_map stem_of (option_copied known.entry)) stem.now }
+{
+    if done == 0 {
+        is_new(known, stem)
+    } else {
+        !seen.is_alike
     }
 }
 
@@ -114,6 +133,7 @@ pub fn check_block(totals: &Totals, entry: &IndexEntry, bytes: &[u8]) -> Result<
 }
 
 /// The same, and the records are surveyed; `before` is the last key of the block before, or there is none.
+#[inline(never)]
 #[tactic(auto, unfolding(crate::specs::Reading::own_block_at))]
 pub fn survey_block(
     totals: &Totals,
@@ -135,7 +155,13 @@ pub fn survey_block(
     for done in 0..count {
         let at = (bytes.len() - rest.len()) as u64;
         let seen = own_record_of(totals, entry, count - done - 1, at, last, rest)?;
-        survey.add(known, seen.key, seen.ts, seen.seq)?;
+        let stem = stem_of(seen.key);
+        survey.note(
+            starts_stem(done, known, stem, &seen),
+            stem,
+            seen.ts,
+            seen.seq,
+        )?;
         last = seen.key;
         known = Some(last);
         rest = seen.rest;

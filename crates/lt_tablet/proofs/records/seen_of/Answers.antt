@@ -6,8 +6,8 @@ use Rattle.lt_tablet.proofs.Asked.{holds_ok}
 use Rattle.lt_tablet.proofs.Seen.{seen_read}
 use Rattle.lt_tablet.proofs.records.seen_of.Goals as goal
 
-pub returns : goal.returns
-returns c =
+pub returns-clause-seen : goal.returns-clause-seen
+returns-clause-seen c =
     let fit : (is_key_len c.in_ok-key_len.key_len && (leb c.in_ok-body_len.body_len 60000 && ltb c.in_ok-seq.seq (2 ^ 62))) ≡ true = sym c.are_fit.ensures ∙ holds_ok c.are_fit.result c.args.at c.in_ok-holds.field-0 c.in_ok-holds.ensures.exact in
     let above : is_less c.args.last.now c.in_ok-key.key.now ≡ true = sym c.rises.ensures ∙ holds_ok c.rises.result c.args.at c.in_ok-holds-2.field-0 c.in_ok-holds-2.ensures.exact in
     record {

@@ -1,9 +1,10 @@
-use Rattle.std.proofs.Common.{◌≡◌, ◌+◌, ◌-◌, ◌++◌, ◌∷◌, ℕ, List, [], Err, length, ap, sym, ◌∙◌, append_assoc, arith}
-use Rattle.std.specs.Prelude.{nat_eq, Some}
+use Rattle.std.proofs.Common.{◌≡◌, ◌+◌, ◌-◌, ◌++◌, ◌∷◌, ℕ, List, [], Err, length, ap, refl, sym, ◌∙◌, append_assoc, arith}
+use Rattle.std.specs.Prelude.{nat_eq, not, Option, Some}
+use Rattle.std.specs.Option.{option_map}
 use Rattle.std.proofs.lemmas.List.{append-nil}
 use Rattle.std.proofs.lemmas.Result.{err_from_is_err_and}
-use Rattle.lt_rec.specs.Record.{stored_len}
-use Rattle.lt_tablet.specs.Spelling.{Entry}
+use Rattle.lt_rec.specs.Record.{stored_len, stem_of}
+use Rattle.lt_tablet.specs.Spelling.{Entry, differs}
 use Rattle.lt_tablet.specs.Reading.{own_records_at, own_block_at}
 use Rattle.lt_tablet.specs.Surveying.{last_of, found_in}
 use Rattle.lt_tablet.proofs.Loops.{records_start, block_stop, block_done, block_read, records_next, checks_end}
@@ -17,7 +18,11 @@ loop-done-init c = (
   [],
   records_start c.args.totals.now c.args.entry.now c.in_ok-count.count (c.in_ok-count.count - 0) (length c.args.bytes.now - length c.in_ok-count.behind.now) c.in_ok-count.behind.now (omega arith) (omega (arith, c.in_ok-count.ensures.len)),
   λ recs before old. (before ∙ ap last_of (sym (append-nil recs)), old ∙ ap found_in (sym (append-nil recs))),
+  λ some. absurd (omega (arith, some)),
 )
+
+pub starts_stem-requires : goal.starts_stem-requires
+starts_stem-requires c = λ some. ap not c.in_ok-seen.ensures.alike ∙ (ap (λ (s : List ℕ). differs (Some (stem_of c.loop-done.last.now)) s) (sym c.stem_of-stem.ensures) ∙ sym (ap (λ (o : Option (List ℕ)). differs (option_map stem_of o) c.stem_of-stem.result.now) (c.loop-done.invariant.4 some)))
 
 pub returns-in_err-seen-clause-fault : goal.returns-in_err-seen-clause-fault
 returns-in_err-seen-clause-fault c =
@@ -36,8 +41,9 @@ loop-done-preserved c =
       λ recs before old.
           let so_far = c.loop-done.invariant.3 recs before old in (
             ap (λ (k : List ℕ). Some k) (sym s.key_is) ∙ (sym (last_of_push (recs ++ front) rec) ∙ ap last_of (append_assoc recs front (rec ∷ []))),
-            c.in_ok-add.ensures (recs ++ front) rec s.key_is s.ts_is s.seq_is so_far.0 so_far.1 ∙ ap found_in (append_assoc recs front (rec ∷ [])),
+            c.in_ok-note.ensures (recs ++ front) rec (ap stem_of s.key_is ∙ sym c.stem_of-stem.ensures) s.ts_is s.seq_is (c.starts_stem.ensures ∙ ap (λ (o : Option (List ℕ)). differs (option_map stem_of o) c.stem_of-stem.result.now) so_far.0) so_far.1 ∙ ap found_in (append_assoc recs front (rec ∷ [])),
           ),
+      λ some. refl,
     )
 
 pub returns-in_err-holds-2-clause-fault : goal.returns-in_err-holds-2-clause-fault

@@ -1,5 +1,5 @@
-use Rattle.std.proofs.Common.{◌≡◌, ◌≤◌, ◌-◌, List, [], ◌++◌, length}
-use Rattle.std.specs.Prelude.{option_copied}
+use Rattle.std.proofs.Common.{◌≡◌, ◌≤◌, ◌<◌, ◌-◌, List, [], ◌++◌, length}
+use Rattle.std.specs.Prelude.{Some, option_copied}
 use Rattle.lt_rec.specs.Record.{Record}
 use Rattle.lt_tablet.specs.Reading.{own_records_at}
 use Rattle.lt_tablet.specs.Surveying.{last_of, found_in}
@@ -11,3 +11,4 @@ invariant-loop-done l =
     (length l.rest ≤ length l.bytes)
     × (front : List Record) × (with_front front (own_records_at l.totals l.entry (l.count - l.done) (length l.bytes - length l.rest) l.last l.rest) ≡ own_records_at l.totals l.entry l.count 4 [] l.initial.rest)
     × ((recs : List Record) → option_copied l.fn.before ≡ last_of recs → l.initial.survey ≡ found_in recs → (option_copied l.known ≡ last_of (recs ++ front)) × (l.survey ≡ found_in (recs ++ front)))
+    × (0 < l.done → option_copied l.known ≡ Some l.last)
