@@ -12,6 +12,7 @@ pub mod Loops
 pub mod Load
 pub mod Stems
 pub mod Within
+pub mod Words
 pub mod Answering
 pub mod SoFar
 pub mod Places

@@ -19,6 +19,7 @@ use Rattle.lt_tablet.specs.Causes.{Refuses}
 use Rattle.lt_tablet.proofs.Own.{own_block_takes}
 use Rattle.lt_tablet.proofs.Blocks.{last_is, end_later}
 use Rattle.lt_tablet.proofs.Load.{refuse_first, refuse_same}
+use Rattle.lt_tablet.proofs.Stems.{last_of_append}
 
 -- ---- the last key
 
@@ -35,12 +36,6 @@ own_last t e bytes own fits short some q =
     ended : (recs : List Record) → 0 < length recs → last_of recs ≡ Some (last_key [] recs)
     ended [] some = absurd (omega (arith, some))
     ended (r ∷ recs) some = last_of_key r recs
-
-last_of_append : (xs ys : List Record) (key : List ℕ) → last_of ys ≡ Some key → last_of (xs ++ ys) ≡ Some key
-last_of_append [] ys key h = h
-last_of_append (x ∷ []) [] key h = absurd cc
-last_of_append (x ∷ []) (y ∷ ys) key h = h
-last_of_append (x ∷ (z ∷ xs)) ys key h = last_of_append (z ∷ xs) ys key h
 
 some_last : (recs : List Record) (key : List ℕ) → last_of recs ≡ Some key → 0 < length recs
 some_last [] key h = absurd cc

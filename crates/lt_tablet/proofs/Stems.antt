@@ -1,11 +1,14 @@
 -- Hashes of stems, totals and the last key, as records come one after the other.
-use Rattle.std.proofs.Common.{◌≡◌, ℕ, Bool, true, false, cond, List, [], ◌∷◌, ◌++◌, refl, sym, ap, ◌∙◌, append_assoc}
+use Rattle.std.proofs.Common.{◌≡◌, ℕ, zero, suc, ◌<◌, ◌≤◌, Bool, true, false, not, cond, List, [], ◌∷◌, ◌++◌, length, refl, sym, ap, ◌∙◌, append_assoc, arith}
 use Rattle.std.specs.Prelude.{Option, Some, None}
 use Rattle.std.specs.Option.{option_map}
+use Rattle.std.proofs.lemmas.List.{append-nil}
 use Rattle.lt_rec.specs.Record.{Record, stem_of}
 use Rattle.lt_bloom.specs.Hash.{hash_of}
 use Rattle.lt_tablet.specs.Spelling.{Totals, differs, hashes_from, totals_of}
+use Rattle.lt_tablet.specs.Reading.{are_alike}
 use Rattle.lt_tablet.specs.Surveying.{Found, found_in, last_of}
+use Rattle.lt_tablet.proofs.Words.{alike_differs}
 
 abbrev step : Option (List ℕ) → List ℕ → List ℕ
 step before stem = cond (differs before stem) (hash_of stem ∷ []) []
@@ -42,17 +45,38 @@ hashes_more recs r = hashes_push None recs r ∙ ap (λ (o : Option (List ℕ)).
 abbrev made : Totals → List ℕ → Found
 made totals hashes = record { totals = totals; hashes = hashes }
 
-pub found_more : (recs : List Record) (r : Record) (stem : List ℕ) (is_new : Bool) (t : Totals) (old hashes : List ℕ) → stem_of r.key ≡ stem → is_new ≡ differs (option_map stem_of (last_of recs)) stem → t ≡ totals_of (recs ++ r ∷ []) → old ≡ hashes_from None recs
-    → hashes ≡ old ++ cond is_new (hash_of stem ∷ []) [] → made t hashes ≡ found_in (recs ++ r ∷ [])
-found_more recs r stem is_new t old hashes m b s o h =
-    ap (λ (v : Totals). made v hashes) s
-    ∙ ap (made (totals_of (recs ++ r ∷ []))) (h
+pub found_by : (recs : List Record) (t : Totals) (hashes : List ℕ) → t ≡ totals_of recs → hashes ≡ hashes_from None recs → made t hashes ≡ found_in recs
+found_by recs t hashes s h = ap (λ (v : Totals). made v hashes) s ∙ ap (made (totals_of recs)) h
+
+pub hashes_next : (recs : List Record) (r : Record) (stem : List ℕ) (is_new : Bool) (old hashes : List ℕ) → stem_of r.key ≡ stem → is_new ≡ differs (option_map stem_of (last_of recs)) stem → old ≡ hashes_from None recs
+    → hashes ≡ old ++ cond is_new (hash_of stem ∷ []) [] → hashes ≡ hashes_from None (recs ++ r ∷ [])
+hashes_next recs r stem is_new old hashes m b o h =
+    h
     ∙ (ap (λ (v : List ℕ). v ++ cond is_new (hash_of stem ∷ []) []) o
     ∙ (ap (λ (v : Bool). hashes_from None recs ++ cond v (hash_of stem ∷ []) []) b
     ∙ (ap (λ (v : List ℕ). hashes_from None recs ++ step (option_map stem_of (last_of recs)) v) (sym m)
-    ∙ sym (hashes_more recs r)))))
+    ∙ sym (hashes_more recs r))))
 
 pub last_of_push : (recs : List Record) (r : Record) → last_of (recs ++ r ∷ []) ≡ Some r.key
 last_of_push [] r = refl
 last_of_push (x ∷ []) r = refl
 last_of_push (x ∷ (y ∷ recs)) r = last_of_push (y ∷ recs) r
+
+pub last_of_append : (xs ys : List Record) (key : List ℕ) → last_of ys ≡ Some key → last_of (xs ++ ys) ≡ Some key
+last_of_append [] ys key h = h
+last_of_append (x ∷ []) [] key h = absurd cc
+last_of_append (x ∷ []) (y ∷ ys) key h = h
+last_of_append (x ∷ (z ∷ xs)) ys key h = last_of_append (z ∷ xs) ys key h
+
+-- whether the next record's stem is new: the first of a block is asked, of the others it was seen
+pub starts : (done : ℕ) (recs front : List Record) (before : Option (List ℕ)) (last key stem : List ℕ) (alike is_new : Bool) → before ≡ last_of recs → (done ≡ 0 → front ≡ []) → (0 < done → (last_of front ≡ Some last) × (8 ≤ length last)) → 8 ≤ length key → stem ≡ stem_of key → alike ≡ are_alike last key
+    → (done ≡ 0 → is_new ≡ differs (option_map stem_of before) stem) → (0 < done → is_new ≡ not alike) → is_new ≡ differs (option_map stem_of (last_of (recs ++ front))) stem
+starts zero recs front before last key stem alike is_new b none some long st al first later =
+    first refl ∙ ap (λ (o : Option (List ℕ)). differs (option_map stem_of o) stem) (b ∙ ap last_of (sym (append-nil recs) ∙ ap (λ (f : List Record). recs ++ f) (sym (none refl))))
+starts (suc n) recs front before last key stem alike is_new b none some long st al first later =
+    let s = some (omega arith) in
+    later (omega arith)
+    ∙ (ap not al
+    ∙ (alike_differs last key s.1 long
+    ∙ (ap (differs (Some (stem_of last))) (sym st)
+    ∙ ap (λ (o : Option (List ℕ)). differs (option_map stem_of o) stem) (sym (last_of_append recs front last s.0)))))

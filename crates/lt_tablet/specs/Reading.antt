@@ -3,7 +3,7 @@ use Rattle.std.specs.Prelude.{◌≡◌, ℕ, zero, suc, ◌+◌, ◌-◌, Bool,
 use Rattle.std.specs.Int.{w32, w64, from_be_bytes}
 use Rattle.std.specs.Cmp.Lexicographic.{pointwise}
 use Rattle.lt_rec.specs.Bytes.{is_less}
-use Rattle.lt_rec.specs.Record.{Record, stored_len, time_of}
+use Rattle.lt_rec.specs.Record.{Record, stored_len, stem_of, time_of}
 use Rattle.lt_rec.specs.Records.{joined}
 use Rattle.lt_block.specs.Reading.{◌>>=◌, number_at, bytes_at, is_key_len, record_at, ended}
 use Rattle.lt_tablet.specs.Spelling.{Entry, Totals, Parts, header, mark, told, totals_of, filter_of}
@@ -104,6 +104,10 @@ own_record_at t e left at last bytes = do
   n ← asked is_key_len at (number_at w32 at bytes)
   suited ← holds (suits_bytes t e left last n.0 bytes) at
   record_at at last bytes
+
+-- the two keys are as long, and the same but for their timestamps
+abbrev pub are_alike : List ℕ → List ℕ → Bool
+are_alike last key = nat_eq (length last) (length key) && pointwise nat_eq (stem_of last) (stem_of key)
 
 -- what was seen of a record that was read of so many bytes: its key, its timestamp and number, and the bytes after it
 pub record Sees (read : Result (Record × List ℕ) ℕ) (size : ℕ) (key : List ℕ) (ts seq : ℕ) (rest : List ℕ) : Type 0 where

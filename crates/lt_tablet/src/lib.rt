@@ -2,6 +2,7 @@
 //! bytes are one and agree with its listing; else the first broken rule is named by its offset.
 #![tactic(auto)]
 
+mod alike;
 mod block;
 mod errors;
 mod footer;

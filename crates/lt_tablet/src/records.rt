@@ -1,12 +1,12 @@
 //! The records of a block in its tablet: those of a block, with what the tablet asks of each.
-ghost use Rattle.std.specs.Prelude.{◌≡◌, ℕ, ◌<◌, ◌≤◌, ◌+◌, ◌^◌, ◌&&◌, ◌||◌, nat_eq, nat_le, nat_lt, take, drop, get_or, length, Err, IfOk, IfErr};
+ghost use Rattle.std.specs.Prelude.{◌≡◌, ℕ, ◌<◌, ◌≤◌, ◌+◌, ◌^◌, ◌&&◌, ◌||◌, nat_le, nat_lt, take, drop, get_or, length, Err, IfOk, IfErr};
 ghost use Rattle.std.specs.Int.{w64, from_be_bytes};
-ghost use Rattle.std.specs.Cmp.Lexicographic.{pointwise};
 ghost use Rattle.lt_rec.specs.Record.{stem_of, time_of, stored_len};
 ghost use Rattle.lt_rec.specs.Bytes.{is_less};
 ghost use Rattle.lt_block.specs.Reading.{Reads, is_key_len, record_at};
-ghost use Rattle.lt_tablet.specs.Reading.{is_within, suits_key, suits_bytes, own_record_at, Sees};
+ghost use Rattle.lt_tablet.specs.Reading.{is_within, suits_key, suits_bytes, own_record_at, are_alike, Sees};
 
+use crate::alike::are_same;
 use crate::footer::holds;
 use crate::index::{IndexEntry, is_key_length};
 use crate::totals::Totals;
@@ -14,8 +14,8 @@ use lt_block::{Fault, RecView, bytes_of, record_of, u32_at, u64_at};
 use lt_rec::Rec;
 use std::cmp::Ordering;
 
-/// What is asked of a record when its block is checked: its key, whether the key before has the same stem, its timestamp
-/// and number, and the bytes after it.
+/// What is asked of a record when its block is checked: its key, whether the key before is alike, its timestamp and number,
+/// and the bytes after it.
 #[derive(Drop)]
 pub struct Seen<'a> {
     pub key: &'a [u8],
@@ -24,6 +24,9 @@ pub struct Seen<'a> {
     pub seq: u64,
     pub rest: &'a [u8],
 }
+
+/// How many bytes of a record stand before its key.
+const HEAD: usize = 20;
 
 /// A key without its timestamp.
 pub fn stem_of(key: &[u8]) -> &[u8]
@@ -107,11 +110,12 @@ fn are_fit(key_len: u32, body_len: u32, seq: u64) -> bool
     is_key_length(key_len) && (body_len <= Rec::LONGEST_BODY as u32 && seq < Rec::SEQ_END)
 }
 
-/// The two keys have the same stem.
+/// The two keys are as long, and have the same stem.
+#[inline(always)]
 fn are_alike(last: &[u8], key: &[u8]) -> bool
-    ensures { result ≡ pointwise nat_eq (stem_of last.now) (stem_of key.now) }
+    ensures { result ≡ are_alike last.now key.now }
 {
-    stem_of(last) == stem_of(key)
+    last.len() == key.len() && are_same(stem_of(last), stem_of(key))
 }
 
 /// Of two keys with one stem the later one comes after.
@@ -127,12 +131,13 @@ fn is_later(last: &[u8], key: &[u8]) -> bool
 }
 
 /// The key comes after the one before it.
+#[inline(always)]
 fn rises(is_alike: bool, last: &[u8], key: &[u8]) -> bool
     requires long_enough { 8 ≤ length key.now }
-    requires stems { is_alike ≡ pointwise nat_eq (stem_of last.now) (stem_of key.now) }
+    requires alike { is_alike ≡ are_alike last.now key.now }
     ensures { result ≡ is_less last.now key.now }
 {
-    if is_alike && last.len() == key.len() {
+    if is_alike {
         is_later(last, key)
     } else {
         last.cmp(key) == Ordering::Less
@@ -140,11 +145,14 @@ fn rises(is_alike: bool, last: &[u8], key: &[u8]) -> bool
 }
 
 /// The record that the bytes begin with, where it is one of a block; a fault tells nothing of where it lies.
+#[inline(always)]
 fn seen_of<'a>(at: u64, last: &[u8], bytes: &'a [u8]) -> Result<Seen<'a>, Fault>
     requires { at ≤ 65536 }
     ensures seen { IfOk result (λ x. Sees (record_at at last.now bytes.now) (length bytes.now) x.key.now x.ts x.seq x.rest.now) }
-    ensures alike { IfOk result (λ x. x.is_alike ≡ pointwise nat_eq (stem_of last.now) (stem_of x.key.now)) }
+    ensures alike { IfOk result (λ x. x.is_alike ≡ are_alike last.now x.key.now) }
 {
+    // What is asked of the length once is not asked again of each field.
+    holds(bytes.len() >= HEAD, at)?;
     let (key_len, rest) = u32_at(at, bytes)?;
     let (body_len, rest) = u32_at(at + 4, rest)?;
     let (seq, rest) = u64_at(at + 8, rest)?;
@@ -165,8 +173,6 @@ fn seen_of<'a>(at: u64, last: &[u8], bytes: &'a [u8]) -> Result<Seen<'a>, Fault>
 }
 
 /// The record that the bytes begin with, asked field by field: its fault is the first one.
-#[cold]
-#[inline(never)]
 #[tactic(auto, unfolding(crate::specs::Reading::own_record_at))]
 fn first_fault_of<'a>(
     totals: &Totals,
@@ -190,8 +196,37 @@ fn first_fault_of<'a>(
     record_of(at, last, bytes)
 }
 
+/// The same of what was seen of it.
+#[cold]
+#[inline(never)]
+fn seen_slowly<'a>(
+    totals: &Totals,
+    entry: &IndexEntry,
+    left: u32,
+    at: u64,
+    last: &[u8],
+    bytes: &'a [u8],
+) -> Result<Seen<'a>, Fault>
+    requires { at ≤ 65536 }
+    ensures seen { IfOk result (λ x. Sees (own_record_at totals.now entry.now left at last.now bytes.now) (length bytes.now) x.key.now x.ts x.seq x.rest.now) }
+    ensures alike { IfOk result (λ x. x.is_alike ≡ are_alike last.now x.key.now) }
+    ensures long_enough { IfOk result (λ x. 8 ≤ length x.key.now) }
+    ensures fault { IfErr result (λ fault. own_record_at totals.now entry.now left at last.now bytes.now ≡ Err fault.at) }
+    ensures within { IfErr result (λ fault. fault.at ≤ at + length bytes.now) }
+{
+    let (rec, rest) = first_fault_of(totals, entry, left, at, last, bytes)?;
+    Ok(Seen {
+        key: rec.key(),
+        is_alike: are_alike(last, rec.key()),
+        ts: rec.ts(),
+        seq: rec.seq(),
+        rest,
+    })
+}
+
 /// The record that the bytes begin with, at offset `at` of its block: so many are left behind it in the block, and `last`
 /// is the key before, or empty. Its fault is the first one, be it the block's or the tablet's.
+#[inline(always)]
 pub fn own_record_of<'a>(
     totals: &Totals,
     entry: &IndexEntry,
@@ -202,7 +237,8 @@ pub fn own_record_of<'a>(
 ) -> Result<Seen<'a>, Fault>
     requires { at ≤ 65536 }
     ensures seen { IfOk result (λ x. Sees (own_record_at totals.now entry.now left at last.now bytes.now) (length bytes.now) x.key.now x.ts x.seq x.rest.now) }
-    ensures alike { IfOk result (λ x. x.is_alike ≡ pointwise nat_eq (stem_of last.now) (stem_of x.key.now)) }
+    ensures alike { IfOk result (λ x. x.is_alike ≡ are_alike last.now x.key.now) }
+    ensures long_enough { IfOk result (λ x. 8 ≤ length x.key.now) }
     ensures fault { IfErr result (λ fault. own_record_at totals.now entry.now left at last.now bytes.now ≡ Err fault.at) }
     ensures within { IfErr result (λ fault. fault.at ≤ at + length bytes.now) }
 {
@@ -211,12 +247,5 @@ pub fn own_record_of<'a>(
     {
         return Ok(seen);
     }
-    let (rec, rest) = first_fault_of(totals, entry, left, at, last, bytes)?;
-    Ok(Seen {
-        key: rec.key(),
-        is_alike: are_alike(last, rec.key()),
-        ts: rec.ts(),
-        seq: rec.seq(),
-        rest,
-    })
+    seen_slowly(totals, entry, left, at, last, bytes)
 }

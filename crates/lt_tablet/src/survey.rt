@@ -9,7 +9,7 @@ ghost use Rattle.lt_tablet.specs.Surveying.{Checks, IsWithin, last_of, found_in}
 
 use crate::footer::holds;
 use crate::index::IndexEntry;
-use crate::records::{Seen, own_record_of, stem_of};
+use crate::records::{own_record_of, stem_of};
 use crate::totals::Totals;
 use lt_block::{BlockError, Fault, u32_at};
 use lt_bloom::stem_hash;
@@ -64,48 +64,49 @@ impl Survey {
     ) -> Result<(), NoMemory>
         ensures { OnOk result ((recs : List Record) (r : Record) → r.key ≡ key.now → r.ts ≡ ts → r.seq ≡ seq → option_copied before.entry ≡ last_of recs → self.old ≡ found_in recs → self.new ≡ found_in (recs ++ r ∷ [])) }
     {
-        let stem = stem_of(key);
-        self.note(is_new(before, stem), stem, ts, seq)
-    }
-
-    /// The same of a record with this stem, which is new where the one before has another or none is before.
-    pub fn note(&mut self, is_new: bool, stem: &[u8], ts: u64, seq: u64) -> Result<(), NoMemory>
-        ensures { OnOk result ((recs : List Record) (r : Record) → stem_of r.key ≡ stem.now → r.ts ≡ ts → r.seq ≡ seq → is_new ≡ differs (option_map stem_of (last_of recs)) stem.now → self.old ≡ found_in recs → self.new ≡ found_in (recs ++ r ∷ [])) }
-    {
-        note_stem(&mut self.hashes, is_new, stem)?;
+        note_stem(&mut self.hashes, is_new(before, key), key)?;
         self.totals.add(ts, seq)
     }
 }
 
-/// A hash for a stem that is new.
-fn note_stem(hashes: &mut Vec<u64>, is_new: bool, stem: &[u8]) -> Result<(), NoMemory>
-    ensures { OnOk result (hashes.new.items ≡ hashes.old.items ++ (if is_new then hash_of stem.now ∷ [] else [])) }
+/// A hash for a key's stem that is new.
+fn note_stem(hashes: &mut Vec<u64>, is_new: bool, key: &[u8]) -> Result<(), NoMemory>
+    ensures { OnOk result (hashes.new.items ≡ hashes.old.items ++ (if is_new then hash_of (stem_of key.now) ∷ [] else [])) }
 {
     if is_new {
-        hashes.push(stem_hash(stem))?;
+        push_hash(hashes, key)?;
     }
     Ok(())
 }
 
+// Apart, so that the loop over records that mostly have the stem before keeps its registers.
+#[inline(never)]
+fn push_hash(hashes: &mut Vec<u64>, key: &[u8]) -> Result<(), NoMemory>
+    ensures { OnOk result (hashes.new.items ≡ hashes.old.items ++ hash_of (stem_of key.now) ∷ []) }
+{
+    hashes.push(stem_hash(stem_of(key)))?;
+    Ok(())
+}
+
 /// There is no key before, or its stem is another one.
-fn is_new(before: Option<&[u8]>, stem: &[u8]) -> bool
-    ensures { result ≡ differs (option_map stem_of (option_copied before.entry)) stem.now }
+fn is_new(before: Option<&[u8]>, key: &[u8]) -> bool
+    ensures { result ≡ differs (option_map stem_of (option_copied before.entry)) (stem_of key.now) }
 {
     match before {
-        Some(key) => stem_of(key) != stem,
+        Some(last) => stem_of(last) != stem_of(key),
         None => true,
     }
 }
 
-/// The record's stem is new: the first of a block is asked, of the others it was seen.
-fn starts_stem(done: u32, known: Option<&[u8]>, stem: &[u8], seen: &Seen<'_>) -> bool
-    requires { 0 < done → not seen.now.is_alike ≡ differs (option_map stem_of (option_copied known)) stem.now }
-    ensures { result ≡ differs (option_map stem_of (option_copied known.entry)) stem.now }
+/// The key's stem is new: of the first one in a block it is asked, of the others it was seen.
+fn starts_stem(done: u32, before: Option<&[u8]>, key: &[u8], is_alike: bool) -> bool
+    ensures first { done ≡ 0 → result ≡ differs (option_map stem_of (option_copied before.entry)) (stem_of key.now) }
+    ensures later { 0 < done → result ≡ not is_alike }
 {
     if done == 0 {
-        is_new(known, stem)
+        is_new(before, key)
     } else {
-        !seen.is_alike
+        !is_alike
     }
 }
 
@@ -149,22 +150,19 @@ pub fn survey_block(
 {
     let (count, behind) = u32_at(0, bytes)?;
     holds(entry.count == count, 0)?;
+    // A copy of the totals stays out of memory in the loop.
+    let mut found = survey.totals;
     let mut last: &[u8] = &[];
-    let mut known = before;
     let mut rest = behind;
     for done in 0..count {
         let at = (bytes.len() - rest.len()) as u64;
         let seen = own_record_of(totals, entry, count - done - 1, at, last, rest)?;
-        let stem = stem_of(seen.key);
-        survey.note(
-            starts_stem(done, known, stem, &seen),
-            stem,
-            seen.ts,
-            seen.seq,
-        )?;
+        let is_new = starts_stem(done, before, seen.key, seen.is_alike);
+        note_stem(&mut survey.hashes, is_new, seen.key)?;
+        found.add(seen.ts, seen.seq)?;
         last = seen.key;
-        known = Some(last);
         rest = seen.rest;
     }
+    survey.totals = found;
     Ok(holds(rest.is_empty(), (bytes.len() - rest.len()) as u64)?)
 }
