@@ -35,9 +35,7 @@ fn one() -> &'static [u8] {
 }
 
 fn writer_of_one(alloc: Global) -> Result<BlockWriter, NoMemory> {
-    let key = Octets::from_slice(alloc, &[0, 0, 0, 0, 0, 0, 0, 1])?;
-    let body = Octets::from_slice(alloc, &[])?;
-    let rec = Rec::from_parts(key, 0, 0, body);
+    let rec = Rec::new(alloc, &[0, 0, 0, 0, 0, 0, 0, 1], 0, 0, &[])?;
     let mut writer = BlockWriter::new(alloc);
     let _added = writer.add(&rec)?;
     Ok(writer)

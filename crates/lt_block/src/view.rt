@@ -1,7 +1,7 @@
 ghost use Rattle.std.specs.Prelude.{◌≡◌, ◌≤◌, length, IfOk};
 ghost use Rattle.lt_rec.specs.Record.{time_of, IsRecord};
 
-use lt_rec::{NoMemory, Octets, Rec};
+use lt_rec::{NoMemory, Rec};
 use std::alloc::Global;
 use std::marker::Model;
 
@@ -43,9 +43,7 @@ impl<'a> RecView<'a> {
         requires { IsRecord self.now }
         ensures { IfOk result (λ rec. rec ≡ self.now) }
     {
-        let key = Octets::from_slice(alloc, self.key)?;
-        let body = Octets::from_slice(alloc, self.body)?;
-        Ok(Rec::from_parts(key, self.seq, self.ver, body))
+        Rec::new(alloc, self.key, self.seq, self.ver, self.body)
     }
 
     pub fn key(&self) -> &'a [u8]

@@ -50,11 +50,10 @@ fn sealed(alloc: Global, file: u64, bytes: &[u8]) -> Result<MemReader, DeviceErr
 fn rec_of(alloc: Global, stem: u8, ts: u64, seq: u64) -> Result<Rec, Fail> {
     let mut key = Vec::from_slice(alloc, &[stem])?;
     key.extend_from_slice(&ts.to_be_bytes())?;
-    let body = Octets::from_slice(alloc, &[])?;
-    if !Rec::fits(key.as_slice(), seq, body.as_slice()) {
+    if !Rec::fits(key.as_slice(), seq, &[]) {
         return Err("no record".into());
     }
-    Ok(Rec::from_parts(Octets::from_vec(key), seq, 0, body))
+    Ok(Rec::new(alloc, key.as_slice(), seq, 0, &[])?)
 }
 
 /// Two lists in the order of reading: b5 and h6; a1, c7 and i30.

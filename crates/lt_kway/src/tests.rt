@@ -1,13 +1,12 @@
 use super::*;
-use lt_rec::{Octets, Rec};
+use lt_rec::Rec;
 use std::alloc::Global;
 use std::test::Fail;
 
 fn rec_of(alloc: Global, letter: u8, seq: u64) -> Result<Rec, Fail> {
-    let key = Octets::from_slice(alloc, &[letter, 0, 0, 0, 0, 0, 0, 0, 9])?;
-    let body = Octets::from_slice(alloc, b"body")?;
-    if Rec::fits(key.as_slice(), seq, body.as_slice()) {
-        return Ok(Rec::from_parts(key, seq, 1, body));
+    let key = [letter, 0, 0, 0, 0, 0, 0, 0, 9];
+    if Rec::fits(&key, seq, b"body") {
+        return Ok(Rec::new(alloc, &key, seq, 1, b"body")?);
     }
     Err(Fail::from("the record does not fit"))
 }

@@ -1,13 +1,12 @@
 use super::*;
 use lt_rec::{Cut, Octets, RawBox, Rec, RecList};
 use std::alloc::Global;
+use std::process::Abort;
 use std::test::Fail;
 
 fn rec_with(alloc: Global, key: &[u8], seq: u64, body: &[u8]) -> Result<Rec, Fail> {
-    let key = Octets::from_slice(alloc, key)?;
-    let body = Octets::from_slice(alloc, body)?;
-    if Rec::fits(key.as_slice(), seq, body.as_slice()) {
-        return Ok(Rec::from_parts(key, seq, 1, body));
+    if Rec::fits(key, seq, body) {
+        return Ok(Rec::new(alloc, key, seq, 1, body)?);
     }
     Err(Fail::from("the record does not fit"))
 }
@@ -170,8 +169,21 @@ fn make(
     }
 }
 
+fn check_walks(rt: &impl Abort, alloc: Global, case: &Case) -> Result<(), Fail> {
+    for down in [false, true] {
+        let (given, wanted) = both(alloc, case, down)?;
+        assert_eq!(rt;
+            given.as_slice(),
+            wanted.as_slice(),
+            "{}, down {down}",
+            case.name
+        );
+    }
+    Ok(())
+}
+
 #[test]
-fn walks_go_both_ways_between_cuts(rt: HostRuntime) -> Result<(), Fail> {
+fn walks_go_both_ways_over_pieces(rt: HostRuntime) -> Result<(), Fail> {
     for case in [
         make("no record", 0, None, None, ALL, 9),
         make("one record", 1, None, None, ALL, 9),
@@ -180,6 +192,16 @@ fn walks_go_both_ways_between_cuts(rt: HostRuntime) -> Result<(), Fail> {
         make("a full piece", 512, None, Some((511, false)), ALL, 9_999),
         make("two halves", 513, Some((256, false)), None, ALL, 9_999),
         make("all", 2_000, None, None, ALL, u64::MAX),
+        make("limit 0", 2_000, None, None, ALL, 0),
+    ] {
+        check_walks(&rt, rt.alloc(), &case)?;
+    }
+    Ok(())
+}
+
+#[test]
+fn walks_go_both_ways_between_cuts_and_times(rt: HostRuntime) -> Result<(), Fail> {
+    for case in [
         make(
             "between cuts",
             2_000,
@@ -221,17 +243,8 @@ fn walks_go_both_ways_between_cuts(rt: HostRuntime) -> Result<(), Fail> {
             (300, 1_400),
             700,
         ),
-        make("limit 0", 2_000, None, None, ALL, 0),
     ] {
-        for down in [false, true] {
-            let (given, wanted) = both(rt.alloc(), &case, down)?;
-            assert_eq!(rt;
-                given.as_slice(),
-                wanted.as_slice(),
-                "{}, down {down}",
-                case.name
-            );
-        }
+        check_walks(&rt, rt.alloc(), &case)?;
     }
     Ok(())
 }

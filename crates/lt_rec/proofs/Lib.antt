@@ -1,4 +1,5 @@
 mod Fronts
+mod Parts
 mod Numbers
 mod Pieces
 mod Joined

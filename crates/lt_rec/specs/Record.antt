@@ -1,5 +1,5 @@
 -- A record: a row as bytes, with its number and the version of the schema that it was written under.
-use Rattle.std.specs.Prelude.{◌≡◌, ℕ, ◌+◌, ◌-◌, ◌^◌, ◌<◌, ◌≤◌, List, length, take, drop}
+use Rattle.std.specs.Prelude.{◌≡◌, ℕ, ◌+◌, ◌-◌, ◌^◌, ◌<◌, ◌≤◌, List, ◌++◌, length, take, drop}
 use Rattle.std.specs.Int.{w64, to_be_bytes, from_be_bytes}
 
 pub record Record : Type 0 where
@@ -30,3 +30,14 @@ pub record IsRecord (r : Record) : Type 0 where
 -- the bytes that a record takes where it is stored: two lengths, number and version, and then its key and body
 abbrev pub stored_len : Record → ℕ
 stored_len r = 20 + length r.key + length r.body
+
+-- a record whose key and body lie one behind the other
+abbrev pub record_in : List ℕ → ℕ → ℕ → ℕ → ℕ → Record
+record_in bytes key_len ts seq ver = record { key = take key_len bytes; ts = ts; seq = seq; ver = ver; body = drop key_len bytes }
+
+abbrev pub bytes_in : Record → List ℕ
+bytes_in r = r.key ++ r.body
+
+pub record IsWhole (bytes : List ℕ) (key_len : ℕ) (ts : ℕ) (seq : ℕ) (ver : ℕ) : Type 0 where
+  pub within : key_len ≤ length bytes
+  pub lawful : IsRecord (record_in bytes key_len ts seq ver)

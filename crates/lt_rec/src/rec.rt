@@ -1,32 +1,36 @@
-ghost use Rattle.std.specs.Prelude.{◌≡◌, ◌↔◌, ◌-◌, ◌≤◌, ◌<◌, ◌^◌, IsTrue, length, drop};
+ghost use Rattle.std.specs.Prelude.{◌≡◌, ◌↔◌, ◌+◌, ◌-◌, ◌≤◌, ◌<◌, ◌^◌, IfOk, IsTrue, length, take, drop};
 ghost use Rattle.std.specs.Int.{w64, to_be_bytes};
 ghost use Rattle.lt_rec.specs.Record.{IsRecord, stem_of, time_of, stored_len};
 
-use crate::Octets;
-use std::alloc::AllocError;
+use crate::{NoMemory, Octets};
+use std::alloc::{AllocError, Global};
 use std::marker::Model;
 
 /// A row as bytes. The last eight bytes of its key are its timestamp, in microseconds since the Unix epoch and in
-/// big-endian order.
+/// big-endian order. Key and body lie in one piece of memory.
 #[derive(Debug, Drop, PartialEq, Eq)]
 pub struct Rec {
-    key: Octets,
+    bytes: Octets,
     ts: u64,
     seq: u64,
     ver: u32,
-    body: Octets,
+    key_len: u32,
 }
 
 impl Model for Rec {
-    ghost use Rattle.lt_rec.specs.Record.{Record, IsRecord};
+    ghost use Rattle.std.specs.Prelude.{length};
+    ghost use Rattle.lt_rec.specs.Record.{Record, IsWhole, record_in, bytes_in};
+    ghost use Rattle.lt_rec.specs.Whole.{whole_bytes, whole_len};
 
     ghost Value = { Record };
 
-    ghost view = { λ r. record { key = r.key; ts = r.ts; seq = r.seq; ver = r.ver; body = r.body } };
+    ghost view = { λ r. record_in r.bytes r.key_len r.ts r.seq r.ver };
 
-    ghost invariant = { λ r. IsRecord (record { key = r.key; ts = r.ts; seq = r.seq; ver = r.ver; body = r.body }) };
+    ghost invariant = { λ r. IsWhole r.bytes r.key_len r.ts r.seq r.ver };
 
-    ghost inverse = { λ v. record { key = v.key; ts = v.ts; seq = v.seq; ver = v.ver; body = v.body } };
+    ghost inverse = { λ v. record { bytes = bytes_in v; ts = v.ts; seq = v.seq; ver = v.ver; key_len = length v.key } };
+
+    ghost inverse_ok = { λ r h i. record { bytes = whole_bytes r.bytes r.key_len i; ts = r.ts; seq = r.seq; ver = r.ver; key_len = whole_len r.bytes r.key_len h.within i } };
 }
 
 impl Rec {
@@ -49,44 +53,48 @@ impl Rec {
             && body.len() <= Rec::LONGEST_BODY
     }
 
-    /// The record of these parts; its timestamp is read off the key. Takes no memory.
-    pub fn from_parts(key: Octets, seq: u64, ver: u32, body: Octets) -> Rec
-        requires long_enough { 8 ≤ length key }
-        requires short_enough { length key ≤ 4096 }
+    /// The record of these bytes: a key of `key_len` bytes and the body behind it. Takes no memory.
+    pub fn from_bytes(bytes: Octets, key_len: usize, seq: u64, ver: u32) -> Rec
+        requires long_enough { 8 ≤ key_len }
+        requires short_enough { key_len ≤ 4096 }
+        requires within { key_len ≤ length bytes }
         requires numbered { seq < 2 ^ 62 }
-        requires small_body { length body ≤ 60000 }
-        ensures parts { result ≡ record { key = key; ts = time_of key; seq = seq; ver = ver; body = body } }
+        requires small_body { length bytes ≤ key_len + 60000 }
+        ensures parts { result ≡ record { key = take key_len bytes; ts = time_of (take key_len bytes); seq = seq; ver = ver; body = drop key_len bytes } }
         ensures lawful { IsRecord result }
     {
-        let ts = time_at_the_end(key.as_slice());
+        let (key, _) = bytes.as_slice().split_at(key_len);
+        let ts = time_at_the_end(key);
         Rec {
-            key,
+            bytes,
             ts,
             seq,
             ver,
-            body,
+            key_len: key_len as u32,
         }
     }
 
-    /// The parts given back: key, number, version and body. Takes no memory.
-    pub fn into_parts(self) -> (Octets, u64, u32, Octets)
-        ensures parts { result ≡ (self.key, self.seq, self.ver, self.body) }
+    /// The record of copies of these parts; its timestamp is read off the key.
+    pub fn new(alloc: Global, key: &[u8], seq: u64, ver: u32, body: &[u8]) -> Result<Rec, NoMemory>
+        requires long_enough { 8 ≤ length key.now }
+        requires short_enough { length key.now ≤ 4096 }
+        requires numbered { seq < 2 ^ 62 }
+        requires small_body { length body.now ≤ 60000 }
+        ensures parts { IfOk result (λ rec. rec ≡ record { key = key.now; ts = time_of key.now; seq = seq; ver = ver; body = body.now }) }
+        ensures lawful { IfOk result (λ rec. IsRecord rec) }
     {
-        let Rec {
-            key,
-            ts: _,
-            seq,
-            ver,
-            body,
-        } = self;
-        (key, seq, ver, body)
+        let mut bytes = Vec::with_capacity(alloc, key.len() + body.len())?;
+        bytes.extend_from_slice(key)?;
+        bytes.extend_from_slice(body)?;
+        Ok(Rec::from_bytes(Octets::from_vec(bytes), key.len(), seq, ver))
     }
 
     pub fn key(&self) -> &[u8]
         ensures value { result.now ≡ self.now.key }
         ensures lawful { IsRecord self.now }
     {
-        self.key.as_slice()
+        let (key, _) = self.bytes.as_slice().split_at(self.key_len as usize);
+        key
     }
 
     /// The key without its timestamp. Takes no memory.
@@ -94,8 +102,7 @@ impl Rec {
         ensures exact { result.now ≡ stem_of self.now.key }
         ensures lawful { IsRecord self.now }
     {
-        let key = self.key.as_slice();
-        let (stem, _) = key.split_at(key.len() - 8);
+        let (stem, _) = self.bytes.as_slice().split_at(self.key_len as usize - 8);
         stem
     }
 
@@ -124,7 +131,8 @@ impl Rec {
         ensures value { result.now ≡ self.now.body }
         ensures lawful { IsRecord self.now }
     {
-        self.body.as_slice()
+        let (_, body) = self.bytes.as_slice().split_at(self.key_len as usize);
+        body
     }
 
     /// How many bytes the record takes where it is stored.
@@ -132,7 +140,7 @@ impl Rec {
         ensures exact { result ≡ stored_len self.now }
         ensures lawful { IsRecord self.now }
     {
-        20 + self.key.len() + self.body.len()
+        20 + self.bytes.len()
     }
 }
 
@@ -140,14 +148,13 @@ impl Clone for Rec {
     ghost is_clone = { λ x y. x ≡ y };
 
     fn clone(&self) -> Result<Rec, AllocError> {
-        let key = self.key.clone()?;
-        let body = self.body.clone()?;
+        let bytes = self.bytes.clone()?;
         Ok(Rec {
-            key,
+            bytes,
             ts: self.ts,
             seq: self.seq,
             ver: self.ver,
-            body,
+            key_len: self.key_len,
         })
     }
 }

@@ -42,12 +42,10 @@ fn bytes_and_texts_are_kept_and_ordered(rt: HostRuntime) -> Result<(), Fail> {
 fn rec_of(alloc: Global, stem: &[u8], ts: u8, seq: u64) -> Result<Rec, Fail> {
     let mut key = Vec::from_slice(alloc, stem)?;
     key.extend_from_slice(&[0, 0, 0, 0, 0, 0, 0, ts])?;
-    let key = Octets::from_vec(key);
-    let body = Octets::from_slice(alloc, b"body")?;
-    if !Rec::fits(key.as_slice(), seq, body.as_slice()) {
+    if !Rec::fits(key.as_slice(), seq, b"body") {
         Err("no record")?;
     }
-    Ok(Rec::from_parts(key, seq, 3, body))
+    Ok(Rec::new(alloc, key.as_slice(), seq, 3, b"body")?)
 }
 
 #[test]
@@ -57,10 +55,8 @@ fn a_record_is_taken_apart(rt: HostRuntime) -> Result<(), Fail> {
     assert_eq!(rt; rec.stem(), b"ab".as_slice(), "stem");
     assert_eq!(rt; (rec.ts(), rec.seq(), rec.ver()), (200, 7, 3), "numbers");
     assert_eq!(rt; rec.stored_len(), 34, "20 and key and body");
-    let (key, seq, ver, body) = rec.into_parts();
-    assert_eq!(rt; key.as_slice(), b"ab\0\0\0\0\0\0\0\xc8".as_slice(), "key");
-    assert_eq!(rt; (seq, ver), (7, 3), "number and version");
-    assert_eq!(rt; body.as_slice(), b"body".as_slice(), "body");
+    assert_eq!(rt; rec.key(), b"ab\0\0\0\0\0\0\0\xc8".as_slice(), "key");
+    assert_eq!(rt; rec.body(), b"body".as_slice(), "body");
     Ok(())
 }
 

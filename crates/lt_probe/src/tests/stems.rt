@@ -8,7 +8,7 @@ ghost use Rattle.lt_probe.specs.Latest.{IsWholeIn, is_asked, records_of};
 
 use lt_block::Block;
 use lt_io::Device;
-use lt_rec::{Octets, Rec, Steps};
+use lt_rec::{Rec, Steps};
 use lt_tablet::{ReadError, Tablet};
 use std::alloc::Global;
 use std::sync::Arc;
@@ -82,11 +82,10 @@ pub fn best_of(
 ) -> Result<Option<Rec>, Fail>
     ensures { IfOk result (λ best. IfSome best (λ b. is_asked prefix.now since b ≡ true)) }
 {
-    let body = Octets::from_slice(alloc, &[])?;
-    if !Rec::fits(key, seq, body.as_slice()) {
+    if !Rec::fits(key, seq, &[]) {
         return Err("no record".into());
     }
-    let rec = Rec::from_parts(Octets::from_slice(alloc, key)?, seq, 0, body);
+    let rec = Rec::new(alloc, key, seq, 0, &[])?;
     if rec.key().starts_with(prefix) && since <= rec.ts() {
         Ok(Some(rec))
     } else {

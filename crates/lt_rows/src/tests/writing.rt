@@ -15,8 +15,7 @@ fn rec_of(alloc: Global, ts: u8, body: Octets) -> Result<Rec, NoMemory>
     ensures key { IfOk result (λ r. r.key ≡ 0 ∷ 0 ∷ 0 ∷ 0 ∷ 0 ∷ 0 ∷ 0 ∷ ts ∷ []) }
     ensures ts { IfOk result (λ r. r.ts ≡ ts) }
 {
-    let key = Octets::from_slice(alloc, &[0, 0, 0, 0, 0, 0, 0, ts])?;
-    Ok(Rec::from_parts(key, 0, 0, body))
+    Rec::new(alloc, &[0, 0, 0, 0, 0, 0, 0, ts], 0, 0, body.as_slice())
 }
 
 fn body_of(alloc: Global, len: usize) -> Result<Octets, NoMemory>
