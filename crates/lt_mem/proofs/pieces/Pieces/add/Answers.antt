@@ -1,11 +1,33 @@
-use Rattle.std.proofs.Common.{◌≡◌, ℕ, List, [], get_or, ap, sym, subst, ◌∙◌}
+use Rattle.std.proofs.Common.{◌≡◌, ℕ, List, [], ◌∷◌, Result, Ok, Err, length, get_or, refl, ap, sym, subst, ◌∙◌, arith}
+use Rattle.std.specs.Prelude.{OnOk, IsErrAnd, MatchResult}
+use Rattle.std.proofs.lemmas.Bool.{eqb-true}
 use Rattle.std.proofs.lemmas.List.{get_or_default}
+use Rattle.std.proofs.lemmas.Result.{err_from_is_err_and, on_ok_weaker}
 use Rattle.lt_rec.specs.Record.{Record}
+use Rattle.lt_rec.specs.Records.{joined}
 use Rattle.lt_mem.specs.Rising.{IsRising}
 use Rattle.lt_mem.specs.Pieces.{IsFound, IsGap, piece_at, place_of}
 use Rattle.lt_mem.proofs.Gap.{found_in, fits, gap_none, gap_rises}
 use Rattle.lt_mem.proofs.pieces.Pieces.add.Goals as goal
 use Rattle.lt_mem.proofs.pieces.Pieces.add.Goals.{in-Ok-put_at, in-Err-put_at}
+
+none_in : (ps : List (List Record)) → length ps ≡ 0 → joined ps ≡ []
+none_in [] none = refl
+none_in (p ∷ ps) none = absurd (omega (arith, none))
+
+-- what holds where the first call succeeds holds where the second, which only tells its refusal otherwise, does
+begun : {T E F : Type 0} (r : Result T E) (s : Result T F) (P : Type 0) (Q : E → F → Type 0) → MatchResult r (λ (t : T). s ≡ Ok t) (λ (e : E). IsErrAnd s (Q e)) → OnOk r P → OnOk s P
+begun (Ok t) s P Q h on = rw h on
+begun (Err e) s P Q h on = rw (err_from_is_err_and s h).1 tt
+
+pub returns-then-is_empty-clause-ok : goal.returns-then-is_empty-clause-ok
+returns-then-is_empty-clause-ok c =
+    let ps = c.self.inside.pieces.items in
+    let len : length ps ≡ 0 = sym (ap length c.as_slice.ensures.value) ∙ eqb-true (length c.as_slice.result.now) 0 (sym c.is_empty.ensures ∙ c.if-is_empty.true) in
+    let none = none_in ps len in
+    rw (← c.self.view_is)
+    (begun c.begin.result c.map_err.result _ _ c.map_err.ensures.cases
+    (on_ok_weaker c.begin.result (λ one. (0, omega arith, ap joined one ∙ ap (λ (rs : List Record). c.args.rec ∷ rs) (sym none))) c.begin.ensures.ok))
 
 pub invariant_of-self-in-Err : goal.invariant_of-self-in-Err
 invariant_of-self-in-Err c =
