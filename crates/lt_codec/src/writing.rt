@@ -14,7 +14,7 @@ use lt_rec::{Cut, NoMemory, Octets, Rec};
 use lt_schema::{Column, Kind, Schema, Value, body_len_in_bytes, key_len_in_bytes};
 use std::alloc::Global;
 
-/// The record of a row that passes. Two pieces of memory are taken: its key's and its body's.
+/// The record of a row that passes. Its key and body are written into one piece of memory.
 pub fn rec_of(
     alloc: Global,
     schema: &Schema,
@@ -31,9 +31,13 @@ pub fn rec_of(
     let key_len = schema.key_len() as usize;
     let (key_columns, body_columns) = schema.columns().as_slice().split_at(key_len);
     let (key_values, body_values) = row.split_at(key_len);
-    let key = key_of(alloc, key_columns, key_values)?;
-    let body = body_of(alloc, body_columns, body_values)?;
-    Ok(Rec::from_parts(key, seq, ver, body))
+    let body_len = body_len_in_bytes(body_columns, body_values);
+    let len = key_len_in_bytes(key_values).saturating_add(body_len);
+    let mut bytes = Vec::with_capacity(alloc, len as usize)?;
+    put_key(&mut bytes, key_columns, key_values)?;
+    let key_end = bytes.as_slice().len();
+    put_body(&mut bytes, body_columns, body_values)?;
+    Ok(Rec::from_bytes(Octets::from_vec(bytes), key_end, seq, ver))
 }
 
 /// The place of leading values among keys: before all keys that begin with them, or, with `after`, behind these.
@@ -70,10 +74,20 @@ fn key_of(alloc: Global, columns: &[Column], values: &[Value]) -> Result<Octets,
     ensures texts { OnOk result (IsTrue (list_all is_text values.now)) }
 {
     let mut key = Vec::with_capacity(alloc, key_len_in_bytes(values) as usize)?;
-    for (at, value) in values.iter().enumerate() {
-        put_in_key(&mut key, columns[at].kind(), value)?;
-    }
+    put_key(&mut key, columns, values)?;
     Ok(Octets::from_vec(key))
+}
+
+fn put_key(out: &mut Vec<u8>, columns: &[Column], values: &[Value]) -> Result<(), NoMemory>
+    requires { length values.now ≤ length columns.now }
+    ensures value { OnOk result (out.new.items ≡ out.old.items ++ spelled_by in_key columns.now values.now) }
+    ensures words { OnOk result (IsTrue (list_all fits_word values.now)) }
+    ensures texts { OnOk result (IsTrue (list_all is_text values.now)) }
+{
+    for (at, value) in values.iter().enumerate() {
+        put_in_key(out, columns[at].kind(), value)?;
+    }
+    Ok(())
 }
 
 #[tactic(auto, unfolding(crate::specs::Spelling::in_key), using(crate::proofs::Texts::is_utf8_of))]
@@ -130,19 +144,18 @@ fn put_byte(out: &mut Vec<u8>, byte: u8) -> Result<(), NoMemory>
     Ok(())
 }
 
-fn body_of(alloc: Global, columns: &[Column], values: &[Value]) -> Result<Octets, NoMemory>
+fn put_body(out: &mut Vec<u8>, columns: &[Column], values: &[Value]) -> Result<(), NoMemory>
     requires len { length values.now ≤ length columns.now }
     requires kinds { wrong_kind_from 0 columns.now values.now ≡ None }
     requires small { len_under columns.now values.now ≤ 60000 }
-    ensures value { IfOk result (λ body. body ≡ spelled_by in_body columns.now values.now) }
+    ensures value { OnOk result (out.new.items ≡ out.old.items ++ spelled_by in_body columns.now values.now) }
     ensures words { OnOk result (IsTrue (list_all fits_word values.now)) }
     ensures texts { OnOk result (IsTrue (list_all is_text values.now)) }
 {
-    let mut body = Vec::with_capacity(alloc, body_len_in_bytes(columns, values) as usize)?;
     for (at, value) in values.iter().enumerate() {
-        put_in_body(&mut body, columns[at].kind(), value)?;
+        put_in_body(out, columns[at].kind(), value)?;
     }
-    Ok(Octets::from_vec(body))
+    Ok(())
 }
 
 #[tactic(auto, unfolding(crate::specs::Spelling::in_body), using(crate::proofs::Texts::is_utf8_of))]

@@ -1,11 +1,15 @@
-use Rattle.std.proofs.Common.{◌≡◌, refl, ℕ, List, take, drop, ap, ◌∙◌}
+use Rattle.std.proofs.Common.{◌≡◌, ◌+◌, ◌≤◌, refl, ℕ, List, ◌++◌, length, take, drop, sym, ap, ◌∙◌, arith, take_at, drop_at}
+use Rattle.std.proofs.lemmas.List.{length-append}
 use Rattle.lt_schema.specs.Shapes.{ColumnShape}
 use Rattle.lt_codec.specs.Spelling.{in_key, in_body, spelled_by, key_bytes, body_bytes}
 use Rattle.lt_codec.proofs.Lengths.{IsSmall, small, spelled_front}
 use Rattle.lt_codec.proofs.writing.rec_of.Goals as goal
 
-pub body_of-requires-clause-kinds : goal.body_of-requires-clause-kinds
-body_of-requires-clause-kinds c =
+parts : (bytes key body : List ℕ) → (n : ℕ) → bytes ≡ key ++ body → n ≡ length key → (take n bytes ≡ key) × (drop n bytes ≡ body)
+parts bytes key body n all len = rw (all, len) (take_at key body (length key) refl, drop_at key body (length key) refl)
+
+pub put_body-requires-clause-kinds : goal.put_body-requires-clause-kinds
+put_body-requires-clause-kinds c =
     let schema = c.args.schema.now in
     let row = c.args.row.now in
     let is : IsSmall schema row = small schema row c.columns.ensures.lawful c.requires.passes in
@@ -15,8 +19,8 @@ body_of-requires-clause-kinds c =
     let body_values : c.split_at-2.result.1.now ≡ drop schema.key_len row = c.split_at-2.ensures.back ∙ ap (λ (n : ℕ). drop n row) k in
     rw (body_columns, body_values) is.kinds
 
-pub body_of-requires-clause-small : goal.body_of-requires-clause-small
-body_of-requires-clause-small c =
+pub put_body-requires-clause-small : goal.put_body-requires-clause-small
+put_body-requires-clause-small c =
     let schema = c.args.schema.now in
     let row = c.args.row.now in
     let is : IsSmall schema row = small schema row c.columns.ensures.lawful c.requires.passes in
@@ -26,8 +30,8 @@ body_of-requires-clause-small c =
     let body_values : c.split_at-2.result.1.now ≡ drop schema.key_len row = c.split_at-2.ensures.back ∙ ap (λ (n : ℕ). drop n row) k in
     rw (body_columns, body_values) is.under
 
-pub from_parts-requires-clause-long_enough : goal.from_parts-requires-clause-long_enough
-from_parts-requires-clause-long_enough c =
+pub from_bytes-requires-clause-long_enough : goal.from_bytes-requires-clause-long_enough
+from_bytes-requires-clause-long_enough c =
     let schema = c.args.schema.now in
     let row = c.args.row.now in
     let is : IsSmall schema row = small schema row c.columns.ensures.lawful c.requires.passes in
@@ -35,12 +39,14 @@ from_parts-requires-clause-long_enough c =
     let columns : c.as_slice.result.now ≡ schema.columns = c.as_slice.ensures ∙ c.columns.ensures.columns in
     let key_columns : c.split_at.result.0.now ≡ take schema.key_len schema.columns = c.split_at.ensures.front ∙ ap (λ (n : ℕ). take n c.as_slice.result.now) k ∙ ap (take schema.key_len) columns in
     let key_values : c.split_at-2.result.0.now ≡ take schema.key_len row = c.split_at-2.ensures.front ∙ ap (λ (n : ℕ). take n row) k in
-    let key : c.in_ok-key.key ≡ key_bytes schema row = c.in_ok-key.ensures.value ∙ ap (λ (columns : List ColumnShape). spelled_by in_key columns c.split_at-2.result.0.now) key_columns
+    let spelled : spelled_by in_key c.split_at.result.0.now c.split_at-2.result.0.now ≡ key_bytes schema row = ap (λ (columns : List ColumnShape). spelled_by in_key columns c.split_at-2.result.0.now) key_columns
     ∙ ap (spelled_by in_key (take schema.key_len schema.columns)) key_values ∙ spelled_front in_key schema.key_len schema.columns row in
-    rw key is.long
+    let key = c.in_ok-put_key.ensures.value ∙ ap (λ (b : List ℕ). b ++ spelled_by in_key c.split_at.result.0.now c.split_at-2.result.0.now) c.in_ok-bytes.ensures.items ∙ spelled in
+    let key_end : length c.as_slice-key_end.result.now ≡ length (key_bytes schema row) = ap length (c.as_slice-key_end.ensures.value ∙ key) in
+    omega (arith, key_end, is.long)
 
-pub from_parts-requires-clause-short_enough : goal.from_parts-requires-clause-short_enough
-from_parts-requires-clause-short_enough c =
+pub from_bytes-requires-clause-short_enough : goal.from_bytes-requires-clause-short_enough
+from_bytes-requires-clause-short_enough c =
     let schema = c.args.schema.now in
     let row = c.args.row.now in
     let is : IsSmall schema row = small schema row c.columns.ensures.lawful c.requires.passes in
@@ -48,22 +54,33 @@ from_parts-requires-clause-short_enough c =
     let columns : c.as_slice.result.now ≡ schema.columns = c.as_slice.ensures ∙ c.columns.ensures.columns in
     let key_columns : c.split_at.result.0.now ≡ take schema.key_len schema.columns = c.split_at.ensures.front ∙ ap (λ (n : ℕ). take n c.as_slice.result.now) k ∙ ap (take schema.key_len) columns in
     let key_values : c.split_at-2.result.0.now ≡ take schema.key_len row = c.split_at-2.ensures.front ∙ ap (λ (n : ℕ). take n row) k in
-    let key : c.in_ok-key.key ≡ key_bytes schema row = c.in_ok-key.ensures.value ∙ ap (λ (columns : List ColumnShape). spelled_by in_key columns c.split_at-2.result.0.now) key_columns
+    let spelled : spelled_by in_key c.split_at.result.0.now c.split_at-2.result.0.now ≡ key_bytes schema row = ap (λ (columns : List ColumnShape). spelled_by in_key columns c.split_at-2.result.0.now) key_columns
     ∙ ap (spelled_by in_key (take schema.key_len schema.columns)) key_values ∙ spelled_front in_key schema.key_len schema.columns row in
-    rw key is.key_len
+    let key = c.in_ok-put_key.ensures.value ∙ ap (λ (b : List ℕ). b ++ spelled_by in_key c.split_at.result.0.now c.split_at-2.result.0.now) c.in_ok-bytes.ensures.items ∙ spelled in
+    let key_end : length c.as_slice-key_end.result.now ≡ length (key_bytes schema row) = ap length (c.as_slice-key_end.ensures.value ∙ key) in
+    omega (arith, key_end, is.key_len)
 
-pub from_parts-requires-clause-small_body : goal.from_parts-requires-clause-small_body
-from_parts-requires-clause-small_body c =
+pub from_bytes-requires-clause-small_body : goal.from_bytes-requires-clause-small_body
+from_bytes-requires-clause-small_body c =
     let schema = c.args.schema.now in
     let row = c.args.row.now in
     let is : IsSmall schema row = small schema row c.columns.ensures.lawful c.requires.passes in
     let k : c.key_len-key_len.result ≡ schema.key_len = c.key_len-key_len.ensures in
     let columns : c.as_slice.result.now ≡ schema.columns = c.as_slice.ensures ∙ c.columns.ensures.columns in
+    let key_columns : c.split_at.result.0.now ≡ take schema.key_len schema.columns = c.split_at.ensures.front ∙ ap (λ (n : ℕ). take n c.as_slice.result.now) k ∙ ap (take schema.key_len) columns in
+    let key_values : c.split_at-2.result.0.now ≡ take schema.key_len row = c.split_at-2.ensures.front ∙ ap (λ (n : ℕ). take n row) k in
     let body_columns : c.split_at.result.1.now ≡ drop schema.key_len schema.columns = c.split_at.ensures.back ∙ ap (λ (n : ℕ). drop n c.as_slice.result.now) k ∙ ap (drop schema.key_len) columns in
     let body_values : c.split_at-2.result.1.now ≡ drop schema.key_len row = c.split_at-2.ensures.back ∙ ap (λ (n : ℕ). drop n row) k in
-    let body : c.in_ok-body.body ≡ body_bytes schema row = c.in_ok-body.ensures.value ∙ ap (λ (columns : List ColumnShape). spelled_by in_body columns c.split_at-2.result.1.now) body_columns
+    let spelled : spelled_by in_key c.split_at.result.0.now c.split_at-2.result.0.now ≡ key_bytes schema row = ap (λ (columns : List ColumnShape). spelled_by in_key columns c.split_at-2.result.0.now) key_columns
+    ∙ ap (spelled_by in_key (take schema.key_len schema.columns)) key_values ∙ spelled_front in_key schema.key_len schema.columns row in
+    let body : spelled_by in_body c.split_at.result.1.now c.split_at-2.result.1.now ≡ body_bytes schema row = ap (λ (columns : List ColumnShape). spelled_by in_body columns c.split_at-2.result.1.now) body_columns
     ∙ ap (spelled_by in_body (drop schema.key_len schema.columns)) body_values in
-    rw body is.body_len
+    let key = c.in_ok-put_key.ensures.value ∙ ap (λ (b : List ℕ). b ++ spelled_by in_key c.split_at.result.0.now c.split_at-2.result.0.now) c.in_ok-bytes.ensures.items ∙ spelled in
+    let key_end : length c.as_slice-key_end.result.now ≡ length (key_bytes schema row) = ap length (c.as_slice-key_end.ensures.value ∙ key) in
+    let bytes : c.from_vec.result ≡ key_bytes schema row ++ body_bytes schema row = c.from_vec.ensures ∙ c.in_ok-put_body.ensures.value
+    ∙ ap (λ (b : List ℕ). b ++ spelled_by in_body c.split_at.result.1.now c.split_at-2.result.1.now) key ∙ ap (λ (b : List ℕ). key_bytes schema row ++ b) body in
+    let len : length c.from_vec.result ≡ length (key_bytes schema row ++ body_bytes schema row) = ap length bytes in
+    omega (arith, len, key_end, is.body_len, length-append (key_bytes schema row) (body_bytes schema row))
 
 pub returns-clause-value : goal.returns-clause-value
 returns-clause-value c =
@@ -76,8 +93,13 @@ returns-clause-value c =
     let key_values : c.split_at-2.result.0.now ≡ take schema.key_len row = c.split_at-2.ensures.front ∙ ap (λ (n : ℕ). take n row) k in
     let body_columns : c.split_at.result.1.now ≡ drop schema.key_len schema.columns = c.split_at.ensures.back ∙ ap (λ (n : ℕ). drop n c.as_slice.result.now) k ∙ ap (drop schema.key_len) columns in
     let body_values : c.split_at-2.result.1.now ≡ drop schema.key_len row = c.split_at-2.ensures.back ∙ ap (λ (n : ℕ). drop n row) k in
-    let key : c.in_ok-key.key ≡ key_bytes schema row = c.in_ok-key.ensures.value ∙ ap (λ (columns : List ColumnShape). spelled_by in_key columns c.split_at-2.result.0.now) key_columns
+    let spelled : spelled_by in_key c.split_at.result.0.now c.split_at-2.result.0.now ≡ key_bytes schema row = ap (λ (columns : List ColumnShape). spelled_by in_key columns c.split_at-2.result.0.now) key_columns
     ∙ ap (spelled_by in_key (take schema.key_len schema.columns)) key_values ∙ spelled_front in_key schema.key_len schema.columns row in
-    let body : c.in_ok-body.body ≡ body_bytes schema row = c.in_ok-body.ensures.value ∙ ap (λ (columns : List ColumnShape). spelled_by in_body columns c.split_at-2.result.1.now) body_columns
+    let body : spelled_by in_body c.split_at.result.1.now c.split_at-2.result.1.now ≡ body_bytes schema row = ap (λ (columns : List ColumnShape). spelled_by in_body columns c.split_at-2.result.1.now) body_columns
     ∙ ap (spelled_by in_body (drop schema.key_len schema.columns)) body_values in
-    c.from_parts.ensures.parts ∙ rw (key, body, is.timed) refl
+    let key = c.in_ok-put_key.ensures.value ∙ ap (λ (b : List ℕ). b ++ spelled_by in_key c.split_at.result.0.now c.split_at-2.result.0.now) c.in_ok-bytes.ensures.items ∙ spelled in
+    let key_end : length c.as_slice-key_end.result.now ≡ length (key_bytes schema row) = ap length (c.as_slice-key_end.ensures.value ∙ key) in
+    let bytes : c.from_vec.result ≡ key_bytes schema row ++ body_bytes schema row = c.from_vec.ensures ∙ c.in_ok-put_body.ensures.value
+    ∙ ap (λ (b : List ℕ). b ++ spelled_by in_body c.split_at.result.1.now c.split_at-2.result.1.now) key ∙ ap (λ (b : List ℕ). key_bytes schema row ++ b) body in
+    let p = parts c.from_vec.result (key_bytes schema row) (body_bytes schema row) (length c.as_slice-key_end.result.now) bytes key_end in
+    c.from_bytes.ensures.parts ∙ rw (p.0, p.1, is.timed) refl

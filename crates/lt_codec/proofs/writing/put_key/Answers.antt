@@ -1,10 +1,10 @@
 use Rattle.std.proofs.Common.{◌++◌, ℕ, List, ap, sym, ◌∙◌, append-nil}
 use Rattle.lt_codec.specs.Spelling.{in_key}
 use Rattle.lt_codec.proofs.Lengths.{spelled_end}
-use Rattle.lt_codec.proofs.writing.key_of.Goals as goal
+use Rattle.lt_codec.proofs.writing.put_key.Goals as goal
 
 pub returns-clause-value : goal.returns-clause-value
 returns-clause-value c =
     let i = c.loop-at.at in
     let none = spelled_end in_key c.args.columns.now c.args.values.now i c.loop-at-test.false in
-    c.from_vec.ensures ∙ sym (append-nil c.loop-at.key.items) ∙ ap (λ (r : List ℕ). c.loop-at.key.items ++ r) (sym none) ∙ c.loop-at.invariant.put
+    sym (append-nil c.loop-at.out.items) ∙ ap (λ (r : List ℕ). c.loop-at.out.items ++ r) (sym none) ∙ c.loop-at.invariant.put
