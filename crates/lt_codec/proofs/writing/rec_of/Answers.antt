@@ -1,4 +1,4 @@
-use Rattle.std.proofs.Common.{◌≡◌, ◌+◌, ◌≤◌, refl, ℕ, List, ◌++◌, length, take, drop, sym, ap, ◌∙◌, arith, take_at, drop_at}
+use Rattle.std.proofs.Common.{◌≡◌, refl, ℕ, List, ◌++◌, length, take, drop, ap, ◌∙◌, arith, take_at, drop_at}
 use Rattle.std.proofs.lemmas.List.{length-append}
 use Rattle.lt_schema.specs.Shapes.{ColumnShape}
 use Rattle.lt_codec.specs.Spelling.{in_key, in_body, spelled_by, key_bytes, body_bytes}
