@@ -2,7 +2,6 @@ mod Cutting
 mod Digits
 mod Taken
 mod Spelled
-mod Quoted
 mod Utf8
 mod HexDigits
 mod Pieces

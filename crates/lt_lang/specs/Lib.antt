@@ -1,7 +1,6 @@
 pub mod Lines
 pub mod Numbers
 pub mod Reading
-pub mod Texts
 pub mod Tokens
 pub mod Literals
 pub mod Sentences

@@ -1,14 +1,14 @@
 //! Names: of clients, of columns, and of kinds.
 ghost use Rattle.std.specs.Prelude.{◌≡◌, ◌≤◌, IfOk, IsTrue, length};
 ghost use Rattle.std.specs.List.{list_all, prefix_len};
-ghost use Rattle.lt_schema.specs.Names.{is_letter, is_name, is_name_byte};
+ghost use Rattle.lt_schema.specs.Names.{is_letter, is_name_byte};
 ghost use Rattle.lt_lang.specs.Reading.{Finds};
 ghost use Rattle.lt_lang.specs.Parsing.{Gives, client_of, kind_of, needed_kind, needed_name};
 
 use crate::stop::Stop;
 use crate::tokens::{next_word, stop_at};
 use lt_rec::{Label, NoMemory};
-use lt_schema::Kind;
+use lt_schema::{Column, Kind};
 use std::alloc::Global;
 
 fn is_letter(byte: u8) -> bool
@@ -44,24 +44,6 @@ pub fn client_of(word: &[u8]) -> Option<&[u8]>
     }
 }
 
-fn are_name_bytes(bytes: &[u8]) -> bool
-    ensures { result ≡ list_all is_name_byte bytes.now }
-{
-    bytes.iter().all(|byte| is_name_byte(*byte))
-}
-
-/// Whether a word may name a column.
-pub fn is_name(word: &[u8]) -> bool
-    ensures { result ≡ is_name word.now }
-{
-    match word.split_first() {
-        Some((first, others)) => {
-            (is_letter(*first) && are_name_bytes(others)) && others.len() <= 63
-        }
-        None => false,
-    }
-}
-
 /// The text of a name.
 pub fn name_label(alloc: Global, name: &[u8]) -> Result<Label, NoMemory>
     requires { IsTrue (list_all is_name_byte name.now) }
@@ -79,7 +61,7 @@ pub fn needed_name(bytes: &[u8]) -> Result<(&[u8], &[u8]), Stop>
     ensures { Gives (λ x. (x.0.now, x.1.now)) result (needed_name bytes.now) }
 {
     let (word, rest) = next_word(bytes);
-    if is_name(word) {
+    if Column::is_name(word) {
         Ok((word, rest))
     } else {
         Err(stop_at(bytes))

@@ -12,8 +12,8 @@ use Rattle.lt_lang.specs.declared.command.Command.{Command}
 use Rattle.lt_lang.specs.declared.command.Command.TheVariants.{Insert, Scan, Latest as LatestCommand, Flush, Upkeep, Alter, Tablets}
 use Rattle.lt_lang.specs.declared.command.Line.{Line}
 use Rattle.lt_lang.specs.declared.command.Line.TheVariants.{Skip, Bad, Command as CommandLine}
-use Rattle.lt_lang.specs.declared.reply.Reply.{Reply}
-use Rattle.lt_lang.specs.declared.reply.Reply.TheVariants.{Inserted, BadRow, TooOld, Present, Spent, Rows, Latest, BadLimit, BadBound, Flushed, NoTablet, Upkept, Version, Refused, Tablets as TabletsReply, Damaged, Fault, NoMemory}
+use Rattle.lt_reply.specs.declared.reply.Reply.{Reply}
+use Rattle.lt_reply.specs.declared.reply.Reply.TheVariants.{Inserted, BadRow, TooOld, Present, Spent, Rows, Latest, BadLimit, BadBound, Flushed, NoTablet, Upkept, Version, Refused, Tablets as TabletsReply, Damaged, Fault, NoMemory}
 use Rattle.lt_model.specs.History.{Numbered, Opening, Entry, row_entry, bound_entry, schema_entry, kept_entry, History, front}
 use Rattle.lt_schema.specs.Versions.{newest_version}
 use Rattle.lt_model.specs.Readings.{rows_in, next, schemas, since}

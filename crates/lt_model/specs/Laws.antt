@@ -6,8 +6,8 @@ use Rattle.lt_lang.specs.declared.query.Query.{Query}
 use Rattle.lt_lang.specs.declared.command.Command.{Command}
 use Rattle.lt_lang.specs.declared.command.Line.{Line}
 use Rattle.lt_lang.specs.declared.command.Line.TheVariants.{Bad, Command as CommandLine}
-use Rattle.lt_lang.specs.declared.reply.Reply.{Reply}
-use Rattle.lt_lang.specs.declared.reply.Reply.TheVariants.{BadLine}
+use Rattle.lt_reply.specs.declared.reply.Reply.{Reply}
+use Rattle.lt_reply.specs.declared.reply.Reply.TheVariants.{BadLine}
 use Rattle.lt_model.specs.History.{Numbered, Opening, Entry, row_entry, bound_entry, schema_entry, kept_entry, History, front, extended}
 use Rattle.lt_model.specs.Readings.{Note, rows, next, low, kept, schemas, notes_in, IsInMemory, next_tablet}
 use Rattle.lt_model.specs.Legal.{IsOpening, IsLegal, MayFollow, KeysDiffer}

@@ -4,8 +4,8 @@ use Rattle.lt_schema.specs.declared.value.Value.{Value}
 use Rattle.lt_lang.specs.declared.command.Command.TheVariants.{Insert}
 use Rattle.lt_lang.specs.declared.command.Line.{Line}
 use Rattle.lt_lang.specs.declared.command.Line.TheVariants.{Command as CommandLine}
-use Rattle.lt_lang.specs.declared.reply.Reply.{Reply}
-use Rattle.lt_lang.specs.declared.reply.Reply.TheVariants.{Inserted}
+use Rattle.lt_reply.specs.declared.reply.Reply.{Reply}
+use Rattle.lt_reply.specs.declared.reply.Reply.TheVariants.{Inserted}
 use Rattle.lt_model.specs.History.{row_entry, History, front}
 use Rattle.lt_model.specs.Readings.{next}
 use Rattle.lt_model.specs.Session.{Client, Block}

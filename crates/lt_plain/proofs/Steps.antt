@@ -11,11 +11,11 @@ use Rattle.lt_schema.specs.Lawful.{is_schema}
 use Rattle.lt_schema.specs.Versions.{newest, newest_version, alter_refusal}
 use Rattle.lt_schema.specs.Check.{Passes, row_fault, key_of, time_of}
 use Rattle.lt_lang.specs.declared.query.Query.{Query}
-use Rattle.lt_lang.specs.declared.query.BoundFault.{BoundFault}
+use Rattle.lt_reply.specs.declared.bound_fault.BoundFault.{BoundFault}
 use Rattle.lt_lang.specs.declared.command.Command.{Command}
 use Rattle.lt_lang.specs.declared.command.Command.TheVariants.{Insert, Scan, Alter}
-use Rattle.lt_lang.specs.declared.reply.Reply.{Reply}
-use Rattle.lt_lang.specs.declared.reply.Reply.TheVariants.{Inserted, BadRow, TooOld, Present, Spent, Rows, BadLimit, BadBound, Version, Refused, NoMemory}
+use Rattle.lt_reply.specs.declared.reply.Reply.{Reply}
+use Rattle.lt_reply.specs.declared.reply.Reply.TheVariants.{Inserted, BadRow, TooOld, Present, Spent, Rows, BadLimit, BadBound, Version, Refused, NoMemory}
 use Rattle.lt_model.specs.History.{Numbered, Opening, Entry, row_entry, schema_entry, History, extended}
 use Rattle.lt_model.specs.Readings.{rows, next, schemas, since, bound_at, next_tablet}
 use Rattle.lt_model.specs.Boxes.{is_limit, query_fault}

@@ -8,8 +8,8 @@ use Rattle.lt_schema.specs.Versions.{SchemaVersions, newest, newest_version, lif
 use Rattle.lt_schema.specs.Check.{Passes, key_of, time_of}
 use Rattle.lt_lang.specs.declared.query.Query.{Query}
 use Rattle.lt_lang.specs.declared.command.Command.{Command}
-use Rattle.lt_lang.specs.declared.reply.Reply.{Reply}
-use Rattle.lt_lang.specs.declared.reply.Reply.TheVariants.{Damaged}
+use Rattle.lt_reply.specs.declared.reply.Reply.{Reply}
+use Rattle.lt_reply.specs.declared.reply.Reply.TheVariants.{Damaged}
 use Rattle.lt_model.specs.History.{Numbered, Opening, Entry, History, extended}
 use Rattle.lt_model.specs.Readings.{rows, next, low, kept, schemas, life, bound_at}
 use Rattle.lt_model.specs.Boxes.{meets_low, meets_high}

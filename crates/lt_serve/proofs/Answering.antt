@@ -5,11 +5,11 @@ use Rattle.std.specs.List.{flat_map}
 use Rattle.std.proofs.lemmas.List.Elements.{All-nil, All-cons, All-append}
 use Rattle.std.proofs.lemmas.List.{append-nil}
 use Rattle.lt_io.specs.Device.{Counts}
-use Rattle.lt_lang.specs.Texts.{reply_text_of}
+use Rattle.lt_reply.specs.Texts.{reply_text_of}
 use Rattle.lt_lang.specs.declared.command.Line.{Line}
 use Rattle.lt_lang.specs.declared.command.Line.TheVariants.{Skip, Bad, Command as CommandLine}
-use Rattle.lt_lang.specs.declared.reply.Reply.{Reply}
-use Rattle.lt_lang.specs.declared.reply.Reply.TheVariants.{BadLine, Fault}
+use Rattle.lt_reply.specs.declared.reply.Reply.{Reply}
+use Rattle.lt_reply.specs.declared.reply.Reply.TheVariants.{BadLine, Fault}
 use Rattle.lt_model.specs.History.{Opening, History, extended}
 use Rattle.lt_model.specs.Legal.{IsLegal}
 use Rattle.lt_model.specs.Growing.{SoFar}

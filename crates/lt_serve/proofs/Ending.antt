@@ -6,10 +6,10 @@ use Rattle.std.proofs.lemmas.List.{append-nil}
 use Rattle.lt_lang.specs.Lines.{cut_lines}
 use Rattle.lt_lang.specs.Parsing.{line_at}
 use Rattle.lt_lang.proofs.Exactly.{line_spelled}
-use Rattle.lt_lang.specs.Texts.{reply_text_of, client_line, end_line}
+use Rattle.lt_reply.specs.Texts.{reply_text_of, client_line, end_line}
 use Rattle.lt_lang.specs.declared.command.Line.{Line}
 use Rattle.lt_lang.specs.declared.command.Line.TheVariants.{Skip, Bad, Command as CommandLine}
-use Rattle.lt_lang.specs.declared.reply.Reply.{Reply}
+use Rattle.lt_reply.specs.declared.reply.Reply.{Reply}
 use Rattle.lt_model.specs.History.{Opening, History}
 use Rattle.lt_model.specs.Readings.{next, kept}
 use Rattle.lt_model.specs.Session.{Client, Block, Mark, LinesAnswered, IsSession, clients_of}

@@ -8,8 +8,8 @@ use Rattle.lt_schema.specs.declared.change.Change.{Change}
 use Rattle.lt_lang.specs.declared.query.Query.{Query}
 use Rattle.lt_lang.specs.declared.command.Command.{Command}
 use Rattle.lt_lang.specs.declared.command.Command.TheVariants.{Insert, Scan, Alter}
-use Rattle.lt_lang.specs.declared.reply.Reply.{Reply}
-use Rattle.lt_lang.specs.declared.reply.Reply.TheVariants.{NoMemory}
+use Rattle.lt_reply.specs.declared.reply.Reply.{Reply}
+use Rattle.lt_reply.specs.declared.reply.Reply.TheVariants.{NoMemory}
 use Rattle.lt_commit.specs.declared.errors.CommitError.{CommitError}
 use Rattle.lt_commit.specs.declared.errors.CommitError.TheVariants as commit
 use Rattle.lt_model.specs.History.{Opening}

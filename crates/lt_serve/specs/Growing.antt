@@ -1,13 +1,13 @@
 -- A session over the bytes of its input, after some of its lines.
 use Rattle.std.specs.Prelude.{◌≡◌, ◌+◌, ◌-◌, ◌^◌, ◌≤◌, min, ℕ, Bool, true, false, IsTrue, List, [], ◌∷◌, ◌++◌, sum_by, All, Option, Some, None}
 use Rattle.std.specs.List.{flat_map}
-use Rattle.lt_lang.specs.Texts.{reply_text_of, client_line}
+use Rattle.lt_reply.specs.Texts.{reply_text_of, client_line}
 use Rattle.lt_lang.specs.declared.command.Command.{Command}
 use Rattle.lt_lang.specs.declared.command.Command.TheVariants.{Alter}
 use Rattle.lt_lang.specs.declared.command.Line.{Line}
 use Rattle.lt_lang.specs.declared.command.Line.TheVariants.{Skip, Bad, Command as CommandLine}
-use Rattle.lt_lang.specs.declared.reply.Reply.{Reply}
-use Rattle.lt_lang.specs.declared.reply.Reply.TheVariants.{BadLine, Refused, Fault, Spent}
+use Rattle.lt_reply.specs.declared.reply.Reply.{Reply}
+use Rattle.lt_reply.specs.declared.reply.Reply.TheVariants.{BadLine, Refused, Fault, Spent}
 use Rattle.lt_model.specs.History.{Opening, History}
 use Rattle.lt_model.specs.Legal.{IsLegal}
 use Rattle.lt_model.specs.Session.{Block, IsMoment}

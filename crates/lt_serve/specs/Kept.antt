@@ -4,8 +4,8 @@ use Rattle.lt_io.specs.Directory.{State, Directory}
 use Rattle.lt_io.specs.Steps.{Steps}
 use Rattle.lt_schema.specs.declared.change.Change.{Change}
 use Rattle.lt_schema.specs.Versions.{SchemaVersions}
-use Rattle.lt_lang.specs.declared.reply.Reply.{Reply}
-use Rattle.lt_lang.specs.declared.reply.Reply.TheVariants as reply
+use Rattle.lt_reply.specs.declared.reply.Reply.{Reply}
+use Rattle.lt_reply.specs.declared.reply.Reply.TheVariants as reply
 use Rattle.lt_commit.specs.declared.errors.CommitError.{CommitError}
 use Rattle.lt_commit.specs.declared.errors.CommitError.TheVariants as commit
 use Rattle.lt_desc.specs.Shape.{StoneShape}

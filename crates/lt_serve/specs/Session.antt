@@ -4,7 +4,7 @@ use Rattle.std.specs.List.{flat_map, AllByRecursion}
 use Rattle.lt_lang.specs.Lines.{cut_lines}
 use Rattle.lt_lang.specs.Sentences.{IsSpelled}
 use Rattle.lt_lang.specs.Parsing.{line_at}
-use Rattle.lt_lang.specs.Texts.{block_text, end_line}
+use Rattle.lt_reply.specs.Texts.{block_text, end_line}
 use Rattle.lt_lang.specs.declared.command.Command.{Command}
 use Rattle.lt_lang.specs.declared.command.Command.TheVariants.{Insert, Scan, Latest, Flush, Upkeep, Alter, Tablets}
 use Rattle.lt_lang.specs.declared.command.Line.{Line}

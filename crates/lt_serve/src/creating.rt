@@ -1,7 +1,7 @@
 //! Making an empty table.
 ghost use Rattle.std.specs.Prelude.{◌≡◌, ◌≢◌, ◌⊎◌, ◌≤◌, ◌<◌, ◌^◌, ◌∷◌, [], true, None, IfOk, OnOk, IfErr, IfSome, IsErrOf, codes};
 ghost use Rattle.lt_io.specs.Device.{Counts};
-ghost use Rattle.lt_lang.specs.Texts.{line_of};
+ghost use Rattle.lt_reply.specs.Texts.{line_of};
 ghost use Rattle.lt_schema.specs.FromJson.{SaysSchema};
 ghost use Rattle.lt_commit.specs.Begun.{NoneOrEmpty, AllEmpty};
 ghost use Rattle.lt_serve.specs.Created.{IsTextRefusal, IsMakingRefusal, EndsMaking, WasReady, IsMade, NoneOrMade, AllMade, MakesOne};

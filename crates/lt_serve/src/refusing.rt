@@ -1,6 +1,6 @@
 //! The one line that a refusal writes.
 ghost use Rattle.std.specs.Prelude.{◌≡◌, ◌⊎◌, ◌≤◌, ◌++◌, IfOk, OnOk, decimal, codes};
-ghost use Rattle.lt_lang.specs.Texts.{line_of};
+ghost use Rattle.lt_reply.specs.Texts.{line_of};
 ghost use Rattle.lt_serve.specs.Status.{HasFixedLine, refusal_text, schema_refusal};
 ghost use Rattle.lt_serve.specs.Output.{WritesAlone, WritesRefusal, IsRefusal};
 

@@ -11,8 +11,9 @@ ghost use Rattle.lt_serve.specs.Growing.{asks_built, block_head, numbers_used, I
 
 use crate::store::Store;
 use lt_io::{Clock, Device};
-use lt_lang::{Line, Reply, next_line, put_client, put_end, put_reply, read_line};
+use lt_lang::{Line, next_line, read_line};
 use lt_rec::{Label, NoMemory};
+use lt_reply::{Reply, put_client, put_end, put_reply};
 use std::alloc::Global;
 
 /// The line's own moment, else what the clock shows.

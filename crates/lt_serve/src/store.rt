@@ -6,9 +6,10 @@ ghost use Rattle.lt_serve.specs.Kept.{commit_reply, is_life};
 use lt_commit::{Anchor, CommitError};
 use lt_desc::{Stone, Tablets};
 use lt_io::Device;
-use lt_lang::{Command, Reply};
+use lt_lang::Command;
 use lt_plain::ListTable;
 use lt_rec::NoMemory;
+use lt_reply::Reply;
 use lt_schema::{Change, Schemas};
 use std::alloc::Global;
 

@@ -1,6 +1,6 @@
 ghost use Rattle.std.specs.Prelude.{◌≡◌, ◌↔◌, ◌≤◌, ◌<◌, ◌∷◌, [], ℕ, List, Option, None, true, IfSome, map, string_bytes, codes, drop, vec_len, length};
 ghost use Rattle.lt_io.specs.Cause.{Rose};
-ghost use Rattle.lt_lang.specs.Texts.{line_of};
+ghost use Rattle.lt_reply.specs.Texts.{line_of};
 ghost use Rattle.lt_serve.specs.Words.{IsSession, IsCreation, HasForm};
 ghost use Rattle.lt_serve.specs.Stops.{Served, Leaves};
 ghost use Rattle.lt_serve.specs.Output.{MayEnd, ReadsFirst, WritesText, WritesRefusal};

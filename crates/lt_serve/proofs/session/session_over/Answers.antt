@@ -1,5 +1,5 @@
 use Rattle.std.proofs.Common.{◌≡◌, ◌++◌, ◌∷◌, [], ℕ, List, refl, sym, subst, rules, arith}
-use Rattle.lt_lang.specs.Texts.{end_line}
+use Rattle.lt_reply.specs.Texts.{end_line}
 use Rattle.lt_serve.specs.Growing.{HasAnswered}
 use Rattle.lt_serve.proofs.Looked.{next_said, next_cut}
 use Rattle.lt_serve.proofs.Renewing.{stays_none, stays_join}

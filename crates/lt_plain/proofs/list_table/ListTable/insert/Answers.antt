@@ -5,7 +5,7 @@ use Rattle.lt_schema.specs.Shapes.{SchemaShape}
 use Rattle.lt_schema.specs.Versions.{newest}
 use Rattle.lt_schema.specs.Check.{Passes, row_fault, key_of, time_of}
 use Rattle.lt_lang.specs.declared.command.Command.TheVariants.{Insert}
-use Rattle.lt_lang.specs.declared.reply.Reply.TheVariants.{Inserted}
+use Rattle.lt_reply.specs.declared.reply.Reply.TheVariants.{Inserted}
 use Rattle.lt_model.specs.History.{Numbered, Opening}
 use Rattle.lt_model.specs.Readings.{bound_at}
 use Rattle.lt_plain.specs.Table.{Answers, MayAdd, with_row}

@@ -2,7 +2,7 @@ use Rattle.std.proofs.Common.{◌≡◌, ℕ, IsTrue, List, None, sym, ◌∙◌
 use Rattle.lt_schema.specs.Shapes.{SchemaShape}
 use Rattle.lt_schema.specs.Versions.{newest}
 use Rattle.lt_lang.specs.declared.command.Command.TheVariants.{Scan}
-use Rattle.lt_lang.specs.declared.reply.Reply.TheVariants.{Rows}
+use Rattle.lt_reply.specs.declared.reply.Reply.TheVariants.{Rows}
 use Rattle.lt_model.specs.History.{Numbered, Opening}
 use Rattle.lt_model.specs.Readings.{bound_at}
 use Rattle.lt_model.specs.Boxes.{is_limit, query_fault}

@@ -1,7 +1,7 @@
 use Rattle.std.proofs.Common.{◌≡◌, ◌++◌, take, codes, decimal, length}
 use Rattle.std.specs.List.{flat_map}
-use Rattle.lt_lang.specs.Texts.{line_of, tablet_line}
-use Rattle.lt_lang.proofs.printing.put_tablets.Given as goal
+use Rattle.lt_reply.specs.Texts.{line_of, tablet_line}
+use Rattle.lt_reply.proofs.printing.put_tablets.Given as goal
 
 -- so far the lines of the first ones stand behind the count
 abbrev pub invariant-loop-tablet : goal.invariant-loop-tablet

@@ -4,7 +4,7 @@ use Rattle.std.specs.Prelude.{nat_eq, nat_le, not}
 use Rattle.std.specs.List.{list_all, flat_map}
 use Rattle.std.specs.Cmp.{first_so, second_so}
 use Rattle.std.proofs.lemmas.Bool.{eqb-true, leb-true, le-ltb}
-use Rattle.lt_lang.specs.Texts.{is_plain, quoted_byte}
+use Rattle.lt_reply.specs.Texts.{is_plain, quoted_byte}
 
 not_so : (t : Bool) → not t ≡ true → t ≡ false
 not_so true e = cc

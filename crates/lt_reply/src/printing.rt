@@ -1,7 +1,7 @@
 //! The texts of replies, of the line that begins a client's block, and of a session's last line.
 ghost use Rattle.std.specs.Prelude.{◌≡◌, ◌∷◌, ◌++◌, [], IfOk, OnOk, codes, decimal, length};
 ghost use Rattle.std.specs.List.{flat_map};
-ghost use Rattle.lt_lang.specs.Texts.{bound_fault_text, client_line, end_line, end_text, flushed_text, latest_text, line_of, place_text, refusal_text, reply_text_of, row_fault_text, row_line, rows_text, run_text, sizes_text, spaced_number, tablet_line, tablets_text, times_text, upkept_text};
+ghost use Rattle.lt_reply.specs.Texts.{bound_fault_text, client_line, end_line, end_text, flushed_text, latest_text, line_of, place_text, refusal_text, reply_text_of, row_fault_text, row_line, rows_text, run_text, sizes_text, spaced_number, tablet_line, tablets_text, times_text, upkept_text};
 
 use crate::values::{put_number, put_row};
 use crate::{BoundFault, MergeEnd, Reply};

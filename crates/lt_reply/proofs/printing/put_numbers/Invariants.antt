@@ -1,7 +1,7 @@
 use Rattle.std.proofs.Common.{◌≡◌, ◌++◌, take}
 use Rattle.std.specs.List.{flat_map}
-use Rattle.lt_lang.specs.Texts.{spaced_number}
-use Rattle.lt_lang.proofs.printing.put_numbers.Given as goal
+use Rattle.lt_reply.specs.Texts.{spaced_number}
+use Rattle.lt_reply.proofs.printing.put_numbers.Given as goal
 
 -- so far the texts of the first ones stand at the end
 abbrev pub invariant-loop-number : goal.invariant-loop-number

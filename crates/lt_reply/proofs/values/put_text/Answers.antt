@@ -1,6 +1,6 @@
 use Rattle.std.proofs.Common.{sym, ◌∙◌}
-use Rattle.lt_lang.proofs.Quoted.{quoted_plain}
-use Rattle.lt_lang.proofs.values.put_text.Goals as goal
+use Rattle.lt_reply.proofs.Quoted.{quoted_plain}
+use Rattle.lt_reply.proofs.values.put_text.Goals as goal
 
 pub returns : goal.returns
 returns c =

@@ -1,7 +1,7 @@
 use Rattle.std.proofs.Common.{◌≡◌, ◌++◌, take}
 use Rattle.std.specs.List.{flat_map}
-use Rattle.lt_lang.specs.Texts.{quoted_byte}
-use Rattle.lt_lang.proofs.values.put_each.Given as goal
+use Rattle.lt_reply.specs.Texts.{quoted_byte}
+use Rattle.lt_reply.proofs.values.put_each.Given as goal
 
 -- so far the texts of the first ones stand at the end
 abbrev pub invariant-loop-byte : goal.invariant-loop-byte

@@ -9,12 +9,12 @@ use Rattle.lt_schema.specs.declared.row.RowFault.{RowFault}
 use Rattle.lt_schema.specs.declared.row.RowFault.TheVariants as row_faults
 use Rattle.lt_schema.specs.declared.change.AlterError.{AlterError}
 use Rattle.lt_schema.specs.declared.change.AlterError.TheVariants.{Exists, TooMany, BadDefault, NoColumn, NotInt32}
-use Rattle.lt_lang.specs.declared.query.BoundFault.{BoundFault}
-use Rattle.lt_lang.specs.declared.query.BoundFault.TheVariants as bound_faults
-use Rattle.lt_lang.specs.declared.upkeep.MergeEnd.{MergeEnd}
-use Rattle.lt_lang.specs.declared.upkeep.MergeEnd.TheVariants.{Merged, Emptied, Gone}
-use Rattle.lt_lang.specs.declared.reply.Reply.{Reply}
-use Rattle.lt_lang.specs.declared.reply.Reply.TheVariants.{BadLine, Inserted, BadRow, TooOld, Present, Spent, Rows, Latest, BadLimit, BadBound, Flushed, NoTablet, Upkept, Version, Refused, Tablets, Damaged, Fault, NoMemory}
+use Rattle.lt_reply.specs.declared.bound_fault.BoundFault.{BoundFault}
+use Rattle.lt_reply.specs.declared.bound_fault.BoundFault.TheVariants as bound_faults
+use Rattle.lt_reply.specs.declared.upkeep.MergeEnd.{MergeEnd}
+use Rattle.lt_reply.specs.declared.upkeep.MergeEnd.TheVariants.{Merged, Emptied, Gone}
+use Rattle.lt_reply.specs.declared.reply.Reply.{Reply}
+use Rattle.lt_reply.specs.declared.reply.Reply.TheVariants.{BadLine, Inserted, BadRow, TooOld, Present, Spent, Rows, Latest, BadLimit, BadBound, Flushed, NoTablet, Upkept, Version, Refused, Tablets, Damaged, Fault, NoMemory}
 
 -- a line and its LF
 abbrev pub line_of : List ℕ → List ℕ

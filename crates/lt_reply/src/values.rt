@@ -2,7 +2,7 @@
 ghost use Rattle.std.specs.Prelude.{◌≡◌, ◌<◌, ◌++◌, OnOk, decimal};
 ghost use Rattle.std.specs.List.{flat_map, list_all};
 ghost use Rattle.std.specs.Fmt.{signed_decimal};
-ghost use Rattle.lt_lang.specs.Texts.{is_plain, hex_byte, hex_digit, quoted_byte, row_line, spaced_value, value_text};
+ghost use Rattle.lt_reply.specs.Texts.{is_plain, hex_byte, hex_digit, quoted_byte, row_line, spaced_value, value_text};
 
 use itoa::Buffer;
 use lt_rec::NoMemory;
