@@ -11,7 +11,7 @@ use Rattle.std.proofs.lemmas.List.Kept.{AllPairs-cons}
 use Rattle.std.proofs.lemmas.List.Sorted.{IsPermutation-refl, IsPermutation-cons, IsPermutation-sym, IsPermutation-trans, IsPermutation-middle, Contains-permutation}
 use Rattle.lt_rec.specs.Record.{Record}
 use Rattle.lt_kway.specs.Heads.{is_before}
-use Rattle.lt_tablet.proofs.Asked.{same_bytes, bytes_same}
+use Rattle.lt_layout.proofs.Asked.{same_bytes, bytes_same}
 use Rattle.lt_cursor.proofs.Keys.{clash, before_trans, before_differs, before_or_after}
 use Rattle.lt_cursor.specs.Order.{IsInOrder, HaveDistinctKeys, placed, arranged}
 

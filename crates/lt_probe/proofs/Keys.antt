@@ -15,10 +15,10 @@ use Rattle.lt_rec.specs.declared.cut.Cut.{Cut}
 use Rattle.lt_block.specs.Spelling.{IsBlock}
 use Rattle.lt_bloom.specs.Filter.{admits, filter_bytes}
 use Rattle.lt_bloom.specs.Hash.{hash_of}
-use Rattle.lt_tablet.specs.Spelling.{Entry, Totals, end_of, hashes_from}
-use Rattle.lt_tablet.specs.Entries.{IsEntries}
-use Rattle.lt_tablet.specs.Loaded.{Loaded, IsTold, IsIndexRange, blocks_in, records_in, listed_totals, times_meet, may_have}
-use Rattle.lt_tablet.proofs.Sums.{Within, all_within}
+use Rattle.lt_layout.specs.Spelling.{Entry, Totals, end_of, hashes_from, listed_totals}
+use Rattle.lt_layout.specs.Entries.{IsEntries}
+use Rattle.lt_tablet.specs.Loaded.{Loaded, IsTold, IsIndexRange, blocks_in, records_in, times_meet, may_have}
+use Rattle.lt_layout.proofs.Sums.{Within, all_within}
 use Rattle.lt_probe.specs.Keys.{HasNumber, NoneHas, is_spanned, may_have_key}
 use Rattle.lt_probe.specs.Sought.{key_box}
 use Rattle.std.proofs.lemmas.List.{get_or_default}

@@ -11,7 +11,7 @@ use Rattle.lt_rec.specs.Record.{Record, IsRecord}
 use Rattle.lt_rec.specs.Records.{joined}
 use Rattle.lt_bloom.specs.Filter.{admits}
 use Rattle.lt_bloom.specs.Hash.{hash_of}
-use Rattle.lt_tablet.specs.Spelling.{Entry, hashes_from}
+use Rattle.lt_layout.specs.Spelling.{Entry, hashes_from}
 use Rattle.lt_tablet.specs.Loaded.{Loaded, IsTold, IsIndexRange, blocks_in, records_in, times_meet, may_have}
 use Rattle.lt_probe.specs.Asked.{Question, admits_question, prefix_box}
 use Rattle.lt_probe.specs.Counting.{blocks_asked, blocks_with_room, is_behind}

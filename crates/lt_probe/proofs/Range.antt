@@ -7,7 +7,7 @@ use Rattle.std.proofs.lemmas.Option.{get_or_from_slice_get, slice_get_within}
 use Rattle.lt_rec.specs.Record.{Record}
 use Rattle.lt_rec.specs.Records.{joined}
 use Rattle.lt_block.specs.Spelling.{spelling}
-use Rattle.lt_tablet.specs.Spelling.{entries_of}
+use Rattle.lt_layout.specs.Spelling.{entries_of}
 use Rattle.lt_probe.proofs.Blocks.{all_joined}
 
 pub joined-append : (ps qs : List (List Record)) → joined (ps ++ qs) ≡ joined ps ++ joined qs

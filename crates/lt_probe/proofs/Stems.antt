@@ -5,8 +5,8 @@ use Rattle.std.specs.Cmp.Lexicographic.{pointwise}
 use Rattle.std.proofs.lemmas.List.Elements.{Contains-append_right}
 use Rattle.lt_rec.specs.Record.{Record, stem_of}
 use Rattle.lt_bloom.specs.Hash.{hash_of}
-use Rattle.lt_tablet.specs.Spelling.{differs, hashes_from}
-use Rattle.lt_tablet.proofs.Asked.{same_bytes}
+use Rattle.lt_layout.specs.Spelling.{differs, hashes_from}
+use Rattle.lt_layout.proofs.Asked.{same_bytes}
 
 -- the stem is that of the record before, or its hash is one of these
 abbrev pub Has : Option (List ℕ) → List ℕ → List ℕ → Type 0

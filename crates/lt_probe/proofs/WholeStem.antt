@@ -11,7 +11,7 @@ use Rattle.lt_rec.specs.Boxes.{meets_lo, meets_hi}
 use Rattle.lt_rec.specs.Record.{Record, IsRecord, stem_of}
 use Rattle.lt_rec.specs.Records.{joined}
 use Rattle.lt_block.specs.Spelling.{IsBlock, spelling}
-use Rattle.lt_tablet.specs.Spelling.{Entry, entry_of, entries_of, first_key}
+use Rattle.lt_layout.specs.Spelling.{Entry, entry_of, entries_of, first_key}
 use Rattle.lt_tablet.specs.Loaded.{Loaded, IsTold, IsIndexRange, blocks_in, records_in, times_meet, may_have}
 use Rattle.lt_probe.specs.Asked.{Question, prefix_box}
 use Rattle.lt_probe.specs.Latest.{IsCovered, IsLatest, IsWholeIn, is_asked}

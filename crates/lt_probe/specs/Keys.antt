@@ -5,7 +5,7 @@ use Rattle.lt_rec.specs.Bytes.{is_less}
 use Rattle.lt_rec.specs.Record.{Record, stem_of, time_of}
 use Rattle.lt_bloom.specs.Hash.{hash_of}
 use Rattle.lt_bloom.specs.Filter.{admits}
-use Rattle.lt_tablet.specs.Spelling.{Entry}
+use Rattle.lt_layout.specs.Spelling.{Entry}
 use Rattle.lt_tablet.specs.Loaded.{Loaded}
 
 -- a record of this number has the key

@@ -1,7 +1,7 @@
 -- What a phase of loading answers, from what its reading and its check gave.
 use Rattle.std.proofs.Common.{◌≡◌, ◌≤◌, ◌<◌, ◌+◌, ◌-◌, ℕ, zero, suc, List, [], ◌∷◌, length, get_or, drop, take, Result, Ok, Err, refl, sym, ap, subst, ◌∙◌, arith}
 use Rattle.std.proofs.lemmas.List.{length-drop, get_or-drop, get_or-take}
-use Rattle.lt_tablet.specs.Phases.{AreBytes}
+use Rattle.lt_layout.specs.Phases.{AreBytes}
 use Rattle.std.specs.Prelude.{IfErr, IfOk}
 use Rattle.lt_block.specs.declared.fault.Fault.{Fault}
 use Rattle.lt_block.specs.declared.fault.BlockError.{BlockError}

@@ -12,17 +12,17 @@ use Rattle.lt_rec.specs.declared.listed.Listed.{Listed}
 use Rattle.lt_bloom.specs.Filter.{filter_bytes}
 use Rattle.lt_block.specs.Spelling.{spelling, Rises, IsBlock, last_key}
 use Rattle.lt_tablet.specs.declared.errors.WriteError.{WriteError}
-use Rattle.lt_tablet.specs.Spelling.{Entry, Totals, Parts, IsTablet, header, first_key, entry_of, entries_of, end_of, entry_spelled, blocks_spelled, index_spelled, filter_of, footer_spelled, parts_of, totals_of, file_of}
-use Rattle.lt_tablet.specs.Entries.{IsEntries}
-use Rattle.lt_tablet.specs.Reading.{file_at}
-use Rattle.lt_tablet.specs.Surveying.{Found, found_in, last_of}
-use Rattle.lt_tablet.specs.Loaded.{Loaded, IsLoaded, listed_totals, ok_or_no_blocks}
+use Rattle.lt_layout.specs.Spelling.{Entry, Totals, Parts, IsTablet, header, first_key, entry_of, entries_of, end_of, entry_spelled, blocks_spelled, index_spelled, filter_of, footer_spelled, parts_of, totals_of, file_of, listed_totals}
+use Rattle.lt_layout.specs.Entries.{IsEntries}
+use Rattle.lt_layout.specs.Reading.{file_at}
+use Rattle.lt_layout.specs.Surveying.{Found, found_in, last_of}
+use Rattle.lt_tablet.specs.Loaded.{Loaded, IsLoaded, ok_or_no_blocks}
 use Rattle.lt_tablet.specs.Writing.{Writing, IsCut, Keeps, Filled, Wrote, IsListing, HasRecords}
-use Rattle.lt_tablet.proofs.Blocks.{length_entries, end_of_blocks, entries_are, last_of_some}
-use Rattle.lt_tablet.proofs.Sums.{all_join, rises_join, all_of, least_below, greatest_below, greatest_high}
+use Rattle.lt_layout.proofs.Blocks.{length_entries, end_of_blocks, entries_are, last_of_some}
+use Rattle.lt_layout.proofs.Sums.{all_join, rises_join, all_of, least_below, greatest_below, greatest_high}
 use Rattle.lt_tablet.proofs.SoFar.{joined_push}
 use Rattle.lt_tablet.proofs.Places.{told_from}
-use Rattle.lt_tablet.proofs.Whole.{file_parts, file_again}
+use Rattle.lt_layout.proofs.Whole.{file_parts, file_again}
 
 -- ---- one more block
 

@@ -10,15 +10,15 @@ use Rattle.lt_block.proofs.Fields.{IsBytes, IsBytes-take, IsBytes-drop, bind_ok,
 use Rattle.lt_block.proofs.Loop.{err_is}
 use Rattle.lt_tablet.specs.declared.errors.ReadError.{ReadError}
 use Rattle.lt_tablet.specs.declared.errors.ReadError.TheVariants as read_errors
-use Rattle.lt_tablet.specs.Spelling.{Entry, Totals, Parts, IsTablet, entries_of, filter_of, totals_of, file_of}
-use Rattle.lt_tablet.specs.Reading.{footer_place, footer_at, header_at, index_at, blocks_at, totals_at, filter_at, between, file_at}
-use Rattle.lt_tablet.specs.Surveying.{Found, found_in}
-use Rattle.lt_tablet.specs.Phases.{AreBytes, ends_at, surveyed, filter_found}
+use Rattle.lt_layout.specs.Spelling.{Entry, Totals, Parts, IsTablet, entries_of, filter_of, totals_of, file_of}
+use Rattle.lt_layout.specs.Reading.{footer_place, footer_at, header_at, index_at, blocks_at, totals_at, filter_at, between, file_at}
+use Rattle.lt_layout.specs.Surveying.{Found, found_in}
+use Rattle.lt_layout.specs.Phases.{AreBytes, ends_at, surveyed, filter_found}
 use Rattle.lt_tablet.specs.Causes.{Refuses}
-use Rattle.lt_tablet.proofs.Blocks.{blocks_take}
-use Rattle.lt_tablet.proofs.IndexText.{ends}
-use Rattle.lt_tablet.proofs.FooterText.{footer_takes}
-use Rattle.lt_tablet.proofs.Whole.{place_ok, index_takes, file_takes, ending, from_blocks, from_index, from_header, from_footer, from_place}
+use Rattle.lt_layout.proofs.Blocks.{blocks_take}
+use Rattle.lt_layout.proofs.IndexText.{ends}
+use Rattle.lt_layout.proofs.FooterText.{footer_takes}
+use Rattle.lt_layout.proofs.Whole.{place_ok, index_takes, file_takes, ending, from_blocks, from_index, from_header, from_footer, from_place}
 
 abbrev failed : {A : Type 0} → ℕ → Result A ℕ
 failed at = Err at

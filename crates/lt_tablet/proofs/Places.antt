@@ -1,6 +1,6 @@
 -- Blocks by their place in the index.
 use Rattle.std.proofs.Common.{◌≡◌, ℕ, zero, suc, ◌+◌, ◌<◌, Bool, true, List, [], ◌∷◌, ◌++◌, length, get_or, drop, Result, Ok, Err, refl, sym, ap, subst, ◌∙◌, arith}
-use Rattle.std.specs.Prelude.{slice_get, Option, Some, None, IfOk, IfErr, OnOk}
+use Rattle.std.specs.Prelude.{slice_get, Option, Some, None, IfOk, IfErr}
 use Rattle.lt_rec.specs.Record.{Record}
 use Rattle.lt_rec.specs.Records.{joined}
 use Rattle.lt_block.specs.declared.fault.BlockError.{BlockError}
@@ -9,15 +9,15 @@ use Rattle.lt_block.specs.Reading.{Gives}
 use Rattle.lt_block.proofs.Fields.{bind_ok, ok_is}
 use Rattle.lt_tablet.specs.declared.errors.ReadError.{ReadError}
 use Rattle.lt_tablet.specs.declared.errors.ReadError.TheVariants as read_errors
-use Rattle.lt_tablet.specs.Spelling.{Entry, Totals, end_of, entries_of, index_spelled, filter_of, footer_spelled, parts_of, totals_of, file_of, IsTablet}
-use Rattle.lt_tablet.specs.Entries.{IsEntries}
-use Rattle.lt_tablet.specs.Reading.{moved, blocks_at, file_at}
-use Rattle.lt_tablet.specs.Surveying.{IsWithin}
+use Rattle.lt_layout.specs.Spelling.{Entry, Totals, end_of, entries_of, index_spelled, filter_of, footer_spelled, parts_of, totals_of, file_of, IsTablet, listed_totals}
+use Rattle.lt_layout.specs.Entries.{IsEntries}
+use Rattle.lt_layout.specs.Reading.{moved, blocks_at, file_at}
+use Rattle.lt_layout.specs.Surveying.{IsWithin}
 use Rattle.std.proofs.lemmas.Option.{slice_get_read}
-use Rattle.lt_tablet.specs.Loaded.{Loaded, IsTold, IsLoaded, listed_totals, blocks_in, ok_or_no_blocks}
+use Rattle.lt_tablet.specs.Loaded.{Loaded, IsTold, IsLoaded, blocks_in, ok_or_no_blocks}
 use Rattle.lt_tablet.specs.Causes.{IsNoBad, Loads}
-use Rattle.lt_tablet.proofs.Blocks.{blocks_again, moved_ok, end_later}
-use Rattle.lt_tablet.proofs.Sums.{all_within}
+use Rattle.lt_layout.proofs.Blocks.{blocks_again, moved_ok, end_later}
+use Rattle.lt_layout.proofs.Sums.{all_within}
 use Rattle.lt_tablet.proofs.SoFar.{Lies, own_part, behind, blocks_from}
 
 abbrev one : {A : Type 0} → A → Option A
@@ -124,10 +124,6 @@ found_there blocks t bytes i e (Err why) h l = tt
 
 pub never_bad : (blocks : List (List Record)) (t : Totals) (bytes : List ℕ) (i : ℕ) (e : Entry) (r : Result (List Record) ReadError) → BlockThere t bytes blocks i e → Loads (λ b. b) r (moved e.offset (own_part t e bytes)) → IfErr r (λ why. IsNoBad why)
 never_bad blocks t bytes i e r h l = found_no_bad h.recs e.offset r (own_part t e bytes) h.read l
-
-pub on_ok : {X E P : Type 0} (r : Result X E) → P → OnOk r P
-on_ok (Ok x) p = p
-on_ok (Err e) p = tt
 
 -- ---- a tablet's block, by its place
 

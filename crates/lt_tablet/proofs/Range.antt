@@ -16,11 +16,11 @@ use Rattle.lt_rec.specs.declared.cut.Cut.{Cut}
 use Rattle.lt_rec.specs.declared.raw_box.RawBox.{RawBox}
 use Rattle.lt_block.specs.Spelling.{spelling, Rises, last_key, IsBlock}
 use Rattle.lt_block.proofs.Cuts.{down}
-use Rattle.lt_tablet.specs.Spelling.{Entry, Totals, first_key, entries_of}
-use Rattle.lt_tablet.specs.Entries.{IsEntries}
-use Rattle.lt_tablet.specs.Loaded.{Loaded, IsTold, blocks_in, listed_totals, times_meet, may_have, IsIndexRange}
-use Rattle.lt_tablet.proofs.Asked.{same_bytes}
-use Rattle.lt_tablet.proofs.Sums.{Within, all_split, all_within, less_not, last_not_below}
+use Rattle.lt_layout.specs.Spelling.{Entry, Totals, first_key, entries_of, listed_totals}
+use Rattle.lt_layout.specs.Entries.{IsEntries}
+use Rattle.lt_tablet.specs.Loaded.{Loaded, IsTold, blocks_in, times_meet, may_have, IsIndexRange}
+use Rattle.lt_layout.proofs.Asked.{same_bytes}
+use Rattle.lt_layout.proofs.Sums.{Within, all_split, all_within, less_not, last_not_below}
 
 -- ---- keys below a cut
 

@@ -6,36 +6,17 @@ use Rattle.std.proofs.lemmas.Bool.{cases_lt}
 use Rattle.std.proofs.lemmas.List.{append-nil, length-append, drop-drop, at_drop_all}
 use Rattle.lt_rec.specs.Record.{Record}
 use Rattle.lt_rec.specs.Records.{joined}
-use Rattle.lt_block.specs.Spelling.{last_key}
 use Rattle.lt_block.specs.Reading.{◌>>=◌}
-use Rattle.lt_block.proofs.Fields.{IsBytes}
 use Rattle.lt_tablet.specs.declared.errors.ReadError.{ReadError}
-use Rattle.lt_tablet.specs.Spelling.{Entry, Totals, end_of, hashes_from}
-use Rattle.lt_tablet.specs.Entries.{IsEntries}
-use Rattle.lt_tablet.specs.Reading.{own_block_at, moved, blocks_at}
-use Rattle.lt_tablet.specs.Surveying.{Found, found_in, last_of}
-use Rattle.lt_tablet.specs.Phases.{AreBytes, surveyed}
+use Rattle.lt_layout.specs.Spelling.{Entry, Totals, end_of, hashes_from}
+use Rattle.lt_layout.specs.Entries.{IsEntries}
+use Rattle.lt_layout.specs.Reading.{own_block_at, moved, blocks_at}
+use Rattle.lt_layout.specs.Surveying.{Found, found_in, last_of}
+use Rattle.lt_layout.specs.Phases.{AreBytes, surveyed}
 use Rattle.lt_tablet.specs.Causes.{Refuses}
-use Rattle.lt_tablet.proofs.Own.{own_block_takes}
-use Rattle.lt_tablet.proofs.Blocks.{last_is, end_later}
+use Rattle.lt_layout.proofs.Blocks.{end_later}
 use Rattle.lt_tablet.proofs.Load.{refuse_first, refuse_same}
-use Rattle.lt_tablet.proofs.Stems.{last_of_append}
-
--- ---- the last key
-
-last_of_key : (r : Record) (recs : List Record) → last_of (r ∷ recs) ≡ Some (last_key [] (r ∷ recs))
-last_of_key r [] = refl
-last_of_key r (s ∷ recs) = last_of_key s recs
-
--- the last record of an entry's block has the entry's last key
-pub own_last : (t : Totals) (e : Entry) (bytes : List ℕ) (own : List Record) → IsBytes bytes → length bytes ≤ 65536 → 0 < e.count → own_block_at t e bytes ≡ Ok own → last_of own ≡ Some e.last
-own_last t e bytes own fits short some q =
-    let found = own_block_takes t e bytes own fits short some q in
-    ended own found.block.some ∙ ap (λ (k : List ℕ). Some k) (last_is t e [] own found.block.some found.suit)
-  where
-    ended : (recs : List Record) → 0 < length recs → last_of recs ≡ Some (last_key [] recs)
-    ended [] some = absurd (omega (arith, some))
-    ended (r ∷ recs) some = last_of_key r recs
+use Rattle.lt_layout.proofs.Stems.{last_of_append}
 
 some_last : (recs : List Record) (key : List ℕ) → last_of recs ≡ Some key → 0 < length recs
 some_last [] key h = absurd cc

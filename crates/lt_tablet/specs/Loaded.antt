@@ -5,19 +5,15 @@ use Rattle.lt_rec.specs.declared.raw_box.RawBox.{RawBox}
 use Rattle.lt_rec.specs.Boxes.{meets_lo, meets_hi}
 use Rattle.lt_rec.specs.Record.{Record}
 use Rattle.lt_rec.specs.Records.{joined}
-use Rattle.lt_tablet.specs.Spelling.{Entry, Totals, IsTablet, end_of, entries_of, filter_of, totals_of, file_of}
-use Rattle.lt_tablet.specs.Entries.{IsEntries}
-use Rattle.lt_tablet.specs.Reading.{file_at}
+use Rattle.lt_layout.specs.Spelling.{Entry, IsTablet, listed_totals, end_of, entries_of, filter_of, totals_of, file_of}
+use Rattle.lt_layout.specs.Entries.{IsEntries}
+use Rattle.lt_layout.specs.Reading.{file_at}
 
 pub record Loaded : Type 0 where
   pub listed : Listed
   pub index : List Entry
   pub filter : List ℕ
   pub bytes : List ℕ
-
--- what a listing says of its file's records
-abbrev pub listed_totals : Listed → Totals
-listed_totals listed = record { rows = listed.rows; low = listed.low; high = listed.high; first = listed.first; last = listed.last }
 
 abbrev pub ok_or_no_blocks : Result (List (List Record)) ℕ → List (List Record)
 ok_or_no_blocks (Ok blocks) = blocks

@@ -6,9 +6,9 @@ use Rattle.lt_rec.specs.Record.{Record, IsRecord}
 use Rattle.lt_rec.specs.Records.{joined}
 use Rattle.lt_rec.specs.declared.listed.Listed.{Listed}
 use Rattle.lt_block.specs.Spelling.{IsBlock, Rises, last_key}
-use Rattle.lt_tablet.specs.Spelling.{Entry, header, entries_of, blocks_spelled, totals_of, first_key}
-use Rattle.lt_tablet.specs.Surveying.{Found, found_in}
-use Rattle.lt_tablet.specs.Loaded.{Loaded, listed_totals, records_in}
+use Rattle.lt_layout.specs.Spelling.{Entry, header, entries_of, blocks_spelled, totals_of, first_key, listed_totals}
+use Rattle.lt_layout.specs.Surveying.{Found, found_in}
+use Rattle.lt_tablet.specs.Loaded.{Loaded, records_in}
 
 -- what is kept: the file's number and its pen's, the period, the entries of the blocks that went out, where the next one
 -- will begin, the records of the one that fills, what was found of all records, the first key of the block that fills,

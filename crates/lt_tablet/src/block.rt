@@ -2,19 +2,17 @@
 ghost use Rattle.std.specs.Prelude.{◌≡◌, ◌≤◌, ◌<◌, ◌+◌, ◌^◌, true, length, take, drop, IfErr, IsErrOf};
 ghost use Rattle.lt_io.specs.Device.{Counts};
 ghost use Rattle.lt_block.specs.Reading.{Gives};
-ghost use Rattle.lt_tablet.specs.Reading.{own_block_at, moved};
-ghost use Rattle.lt_tablet.specs.Surveying.{IsWithin};
-ghost use Rattle.lt_tablet.specs.Loaded.{listed_totals};
+ghost use Rattle.lt_layout.specs.Reading.{own_block_at, moved};
+ghost use Rattle.lt_layout.specs.Surveying.{IsWithin};
+ghost use Rattle.lt_layout.specs.Spelling.{listed_totals};
 ghost use Rattle.lt_tablet.specs.Causes.{IsOfFile, Loads};
 
 use crate::errors::ReadError;
-use crate::index::IndexEntry;
 use crate::loading::{in_block, read};
-use crate::survey::check_block;
-use crate::totals::Totals;
 use bytes::Bytes;
 use lt_block::{Block, BlockError};
 use lt_io::Device;
+use lt_layout::{IndexEntry, Totals, check_block};
 use lt_rec::Listed;
 use std::alloc::Global;
 

@@ -1,7 +1,7 @@
 ghost use Rattle.std.specs.Prelude.{◌≡◌, true};
 ghost use Rattle.std.specs.Arc.{arc_value};
-ghost use Rattle.lt_tablet.specs.Spelling.{totals_of};
-ghost use Rattle.lt_tablet.specs.Loaded.{Loaded, IsTold, listed_totals, records_in};
+ghost use Rattle.lt_layout.specs.Spelling.{totals_of, listed_totals};
+ghost use Rattle.lt_tablet.specs.Loaded.{Loaded, IsTold, records_in};
 ghost use Rattle.lt_tablet.specs.Writing.{IsListing};
 
 use crate::tablet::Tablet;

@@ -2,26 +2,24 @@
 ghost use Rattle.std.specs.Prelude.{◌≡◌, ◌≤◌, ◌<◌, ◌+◌, ◌-◌, ◌++◌, ◌^◌, ℕ, [], List, true, length, take, drop, option_copied, IfOk, IfErr, OnOk, IsErrOf, Ok, Some};
 ghost use Rattle.lt_rec.specs.Record.{Record};
 ghost use Rattle.lt_io.specs.Device.{Counts};
-ghost use Rattle.lt_tablet.specs.Spelling.{end_of};
-ghost use Rattle.lt_tablet.specs.Entries.{IsEntries};
-ghost use Rattle.lt_tablet.specs.Reading.{footer_at, header_at, index_at, between, own_block_at, moved, file_at};
-ghost use Rattle.lt_tablet.specs.Surveying.{IsWithin, last_of, found_in};
-ghost use Rattle.lt_tablet.specs.Phases.{Lie, AreBytes, ends_at, surveyed, filter_found};
-ghost use Rattle.lt_tablet.specs.Loaded.{listed_totals, blocks_in};
+ghost use Rattle.lt_layout.specs.Spelling.{end_of, listed_totals};
+ghost use Rattle.lt_layout.specs.Entries.{IsEntries};
+ghost use Rattle.lt_layout.specs.Reading.{footer_at, header_at, index_at, between, own_block_at, moved, file_at};
+ghost use Rattle.lt_layout.specs.Surveying.{IsWithin, last_of, found_in};
+ghost use Rattle.lt_layout.specs.Phases.{Lie, AreBytes, ends_at, surveyed, filter_found};
+ghost use Rattle.lt_tablet.specs.Loaded.{blocks_in};
 ghost use Rattle.lt_tablet.specs.Causes.{IsNoBad, IsOfFile, Refuses, Loads, named, named_block, in_block};
 
 use crate::errors::ReadError;
-use crate::footer::{
-    FOOTER_LEN, Parts, check_filter, check_header, check_totals, footer_of, footer_place,
-};
-use crate::index::{IndexEntry, index_of};
-use crate::survey::{Survey, survey_block};
 use crate::tablet::Tablet;
-use crate::totals::Totals;
 use bytes::Bytes;
 use lt_block::{BlockError, Fault};
 use lt_bloom::Filter;
 use lt_io::Device;
+use lt_layout::{
+    FOOTER_LEN, IndexEntry, Parts, Survey, Totals, check_filter, check_header, check_totals,
+    footer_of, footer_place, index_of, survey_block,
+};
 use lt_rec::Listed;
 use std::alloc::Global;
 

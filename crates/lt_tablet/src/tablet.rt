@@ -2,17 +2,17 @@ ghost use Rattle.std.specs.Prelude.{◌≡◌, ◌<◌, ◌≤◌, ◌+◌, ◌�
 ghost use Rattle.lt_rec.specs.Record.{Record};
 ghost use Rattle.lt_rec.specs.Boxes.{in_box};
 ghost use Rattle.lt_io.specs.Device.{Counts};
-ghost use Rattle.lt_tablet.specs.Spelling.{Entry, end_of, filter_of};
-ghost use Rattle.lt_tablet.specs.Entries.{IsEntries};
+ghost use Rattle.lt_layout.specs.Spelling.{Entry, end_of, filter_of};
+ghost use Rattle.lt_layout.specs.Entries.{IsEntries};
 ghost use Rattle.lt_tablet.specs.Loaded.{IsLoaded, IsTold, blocks_in, records_in, IsIndexRange};
 ghost use Rattle.lt_tablet.specs.Causes.{IsNoBad, IsOfFile};
 
 use crate::block::read_block;
 use crate::errors::ReadError;
-use crate::index::IndexEntry;
 use lt_block::Block;
 use lt_bloom::Filter;
 use lt_io::{Device, DeviceError, Enters};
+use lt_layout::IndexEntry;
 use lt_rec::{Listed, RawBox, Steps};
 use std::alloc::Global;
 use std::marker::Model;

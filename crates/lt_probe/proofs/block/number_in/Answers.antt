@@ -1,6 +1,6 @@
 use Rattle.std.proofs.Common.{◌≡◌, ℕ, true, false, eqb, List, ap, ◌∙◌, arith}
 use Rattle.std.specs.Cmp.Lexicographic.{pointwise}
-use Rattle.lt_tablet.proofs.Asked.{bytes_same}
+use Rattle.lt_layout.proofs.Asked.{bytes_same}
 use Rattle.std.specs.Prelude.{count_by}
 use Rattle.lt_rec.specs.Boxes.{is_below}
 use Rattle.lt_rec.specs.declared.cut.Cut.{Cut}

@@ -4,7 +4,7 @@ use Rattle.lt_rec.specs.Boxes.{in_box}
 use Rattle.lt_rec.specs.Record.{Record}
 use Rattle.lt_rec.specs.declared.raw_box.RawBox.{RawBox}
 use Rattle.lt_tablet.specs.Loaded.{IsIndexRange, records_in}
-use Rattle.lt_tablet.specs.Spelling.{hashes_from}
+use Rattle.lt_layout.specs.Spelling.{hashes_from}
 use Rattle.lt_tablet.specs.declared.errors.ReadError.{ReadError}
 use Rattle.lt_probe.specs.Asked.{admits_question}
 use Rattle.lt_probe.proofs.Later.{covers_itself}

@@ -1,7 +1,7 @@
 use Rattle.std.proofs.Common.{◌≡◌, Ok, length, sym, ap, ◌∙◌}
 use Rattle.std.proofs.lemmas.Result.{err_from_is_err_and}
-use Rattle.lt_tablet.specs.Reading.{footer_place}
-use Rattle.lt_tablet.specs.Loaded.{listed_totals}
+use Rattle.lt_layout.specs.Reading.{footer_place}
+use Rattle.lt_layout.specs.Spelling.{listed_totals}
 use Rattle.lt_tablet.proofs.Answering.{named_value, named_fault}
 use Rattle.lt_tablet.proofs.Load.{ends_no_place, ends_no_footer, ends_no_header, ends_read}
 use Rattle.lt_tablet.proofs.loading.read_ends.Goals as goal

@@ -1,6 +1,6 @@
 use Rattle.std.proofs.Common.{◌≡◌, length, drop, ◌∙◌, ◌+◌, arith}
-use Rattle.lt_tablet.specs.Reading.{footer_at}
-use Rattle.lt_tablet.specs.Loaded.{listed_totals}
+use Rattle.lt_layout.specs.Reading.{footer_at}
+use Rattle.lt_layout.specs.Spelling.{listed_totals}
 use Rattle.lt_tablet.proofs.Answering.{named_answer, all_behind}
 use Rattle.lt_tablet.proofs.loading.read_footer.Goals as goal
 

@@ -2,9 +2,8 @@ use Rattle.std.proofs.Common.{◌≡◌, ◌+◌, ℕ, List, drop, sym, ap, subs
 use Rattle.std.specs.Prelude.{option_copied, Some, None}
 use Rattle.std.proofs.lemmas.Result.{err_from_is_err_and}
 use Rattle.lt_rec.specs.Records.{joined}
-use Rattle.lt_tablet.specs.Spelling.{Entry}
-use Rattle.lt_tablet.specs.Loaded.{listed_totals}
-use Rattle.lt_tablet.specs.Surveying.{Found}
+use Rattle.lt_layout.specs.Spelling.{Entry, listed_totals}
+use Rattle.lt_layout.specs.Surveying.{Found}
 use Rattle.lt_tablet.proofs.SoFar.{SoFar, so_far_start, so_far_at, so_far_lies, so_far_next, so_far_stop, so_far_done}
 use Rattle.lt_tablet.proofs.loading.survey_all.Goals as goal
 

@@ -1,6 +1,6 @@
 use Rattle.std.proofs.Common.{◌≤◌, drop}
 use Rattle.std.specs.Prelude.{option_copied}
-use Rattle.lt_tablet.specs.Loaded.{listed_totals}
+use Rattle.lt_layout.specs.Spelling.{listed_totals}
 use Rattle.lt_tablet.proofs.SoFar.{SoFar}
 use Rattle.lt_tablet.proofs.loading.survey_all.Given as goal
 

@@ -1,7 +1,6 @@
 use Rattle.std.proofs.Common.{◌≡◌, ℕ, drop, take, sym, ap, ◌∙◌}
-use Rattle.lt_tablet.specs.Spelling.{Entry, Totals}
-use Rattle.lt_tablet.specs.Reading.{own_block_at}
-use Rattle.lt_tablet.specs.Loaded.{listed_totals}
+use Rattle.lt_layout.specs.Spelling.{Entry, Totals, listed_totals}
+use Rattle.lt_layout.specs.Reading.{own_block_at}
 use Rattle.lt_tablet.proofs.loading.survey_entry.Goals as goal
 
 pub returns-in-Ok-clause-found : goal.returns-in-Ok-clause-found

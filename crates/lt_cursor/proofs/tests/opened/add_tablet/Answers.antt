@@ -2,7 +2,7 @@ use Rattle.std.proofs.Common.{◌≤◌, ◌++◌, length, take, sym, ap, ◌∙
 use Rattle.std.proofs.lemmas.List.{take_all}
 use Rattle.lt_rec.specs.Records.{joined}
 use Rattle.lt_tablet.specs.Loaded.{blocks_in}
-use Rattle.lt_tablet.proofs.Blocks.{length_entries}
+use Rattle.lt_layout.proofs.Blocks.{length_entries}
 use Rattle.lt_cursor.proofs.Behind.{joined_more}
 use Rattle.lt_cursor.proofs.tests.opened.add_tablet.Goals as goal
 

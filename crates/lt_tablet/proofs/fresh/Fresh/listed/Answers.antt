@@ -1,7 +1,7 @@
 use Rattle.std.proofs.Common.{sym, ap, ◌∙◌}
 use Rattle.lt_rec.specs.declared.listed.Listed.{Listed}
-use Rattle.lt_tablet.specs.Spelling.{totals_of}
-use Rattle.lt_tablet.specs.Loaded.{Loaded, listed_totals, records_in}
+use Rattle.lt_layout.specs.Spelling.{totals_of, listed_totals}
+use Rattle.lt_tablet.specs.Loaded.{Loaded, records_in}
 use Rattle.lt_tablet.proofs.fresh.Fresh.listed.Goals as goal
 
 pub returns-clause-told : goal.returns-clause-told

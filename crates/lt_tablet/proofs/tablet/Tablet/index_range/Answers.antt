@@ -4,7 +4,7 @@ use Rattle.std.specs.List.Sorted.{IsPartitionedBy}
 use Rattle.std.proofs.lemmas.Bool.{le-leb, and_from}
 use Rattle.std.proofs.lemmas.List.Sorted.{IsPartitionPoint-from_clause}
 use Rattle.lt_rec.specs.Boxes.{meets_lo, meets_hi}
-use Rattle.lt_tablet.specs.Spelling.{Entry, end_of}
+use Rattle.lt_layout.specs.Spelling.{Entry, end_of}
 use Rattle.lt_tablet.specs.Loaded.{Loaded, blocks_in, times_meet}
 use Rattle.lt_tablet.proofs.Range.{lo_parts, hi_parts, exactly, outside, outside_times}
 use Rattle.lt_tablet.proofs.tablet.Tablet.index_range.Goals as goal

@@ -1,10 +1,10 @@
 use Rattle.std.proofs.Common.{◌≡◌, ℕ, List, [], Ok, length, sym, ap, subst, ◌∙◌, arith}
 use Rattle.std.proofs.lemmas.Result.{err_from_is_err_and}
-use Rattle.lt_tablet.specs.Spelling.{Entry, end_of}
-use Rattle.lt_tablet.specs.Entries.{IsEntries}
-use Rattle.lt_tablet.specs.Phases.{AreBytes, surveyed}
-use Rattle.lt_tablet.specs.Loaded.{Loaded, listed_totals}
-use Rattle.lt_tablet.proofs.IndexText.{ends}
+use Rattle.lt_layout.specs.Spelling.{Entry, end_of, listed_totals}
+use Rattle.lt_layout.specs.Entries.{IsEntries}
+use Rattle.lt_layout.specs.Phases.{AreBytes, surveyed}
+use Rattle.lt_tablet.specs.Loaded.{Loaded}
+use Rattle.lt_layout.proofs.IndexText.{ends}
 use Rattle.lt_tablet.proofs.Load.{refuse_ends, refuse_index, refuse_blocks, refuse_filter, load_found, all_bytes}
 use Rattle.lt_tablet.proofs.Places.{told_from}
 use Rattle.lt_tablet.proofs.tablet.Tablet.load.Goals as goal

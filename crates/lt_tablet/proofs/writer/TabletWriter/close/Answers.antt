@@ -3,8 +3,8 @@ use Rattle.std.specs.List.{flat_map}
 use Rattle.std.proofs.lemmas.Result.{err_from_is_err_and, IfOk-weaker}
 use Rattle.lt_rec.specs.Periods.{Stretch, InPeriod}
 use Rattle.lt_bloom.specs.Filter.{filter_bytes}
-use Rattle.lt_tablet.specs.Spelling.{Totals, Parts, entry_spelled, footer_spelled}
-use Rattle.lt_tablet.specs.Loaded.{Loaded, listed_totals}
+use Rattle.lt_layout.specs.Spelling.{Totals, Parts, entry_spelled, footer_spelled, listed_totals}
+use Rattle.lt_tablet.specs.Loaded.{Loaded}
 use Rattle.lt_tablet.specs.Writing.{Writing, IsCut, IsListing, HasRecords}
 use Rattle.lt_tablet.proofs.Cut.{wanted, parts_same, closed, closed_records, closed_listing, write_err}
 use Rattle.lt_tablet.specs.declared.errors.WriteError.TheVariants as write_errors

@@ -1,7 +1,7 @@
 use Rattle.std.proofs.Common.{ap, sym, ◌∙◌}
 use Rattle.std.specs.Prelude.{option_copied}
 use Rattle.lt_tablet.specs.Writing.{Writing}
-use Rattle.lt_tablet.proofs.Places.{on_ok}
+use Rattle.lt_layout.proofs.Loops.{on_ok}
 use Rattle.lt_tablet.proofs.Cut.{before_is}
 use Rattle.lt_tablet.proofs.writer.TabletWriter.note.Goals as goal
 

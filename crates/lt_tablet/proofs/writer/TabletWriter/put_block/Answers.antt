@@ -1,8 +1,8 @@
 use Rattle.std.proofs.Common.{◌≡◌, ◌+◌, List, ℕ, [], ◌∷◌, ◌++◌, length, refl, ap, sym, subst, ◌∙◌}
 use Rattle.lt_block.specs.Spelling.{spelling, IsBlock}
-use Rattle.lt_tablet.specs.Spelling.{Entry}
+use Rattle.lt_layout.specs.Spelling.{Entry}
 use Rattle.lt_tablet.specs.Writing.{Writing, IsCut}
-use Rattle.lt_tablet.proofs.Blocks.{entry_same}
+use Rattle.lt_layout.proofs.Blocks.{entry_same}
 use Rattle.lt_tablet.proofs.Cut.{cut_put}
 use Rattle.lt_tablet.proofs.writer.TabletWriter.put_block.Goals as goal
 

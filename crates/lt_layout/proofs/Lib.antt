@@ -1,0 +1,15 @@
+pub mod Asked
+pub mod FooterText
+pub mod IndexText
+pub mod Own
+pub mod Moments
+pub mod Seen
+pub mod Sums
+pub mod Blocks
+pub mod Whole
+pub mod Expected
+pub mod Loops
+pub mod Stems
+pub mod Within
+pub mod Words
+pub mod Spelled

@@ -1,5 +1,0 @@
-use Rattle.std.proofs.Common.{length}
-use Rattle.lt_tablet.proofs.alike.+are_same_before.Given as goal
-
-abbrev pub decreases-are_same_before : goal.decreases-are_same_before
-decreases-are_same_before l = length l.one.now
