@@ -1,5 +1,6 @@
 mod Order
 mod Leads
+mod Beside
 mod Between
 mod Joined
 mod Gap

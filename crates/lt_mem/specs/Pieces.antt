@@ -8,7 +8,7 @@ use Rattle.lt_rec.specs.Boxes.{is_below, meets_lo, meets_hi}
 use Rattle.lt_rec.specs.declared.cut.Cut.{Cut}
 use Rattle.lt_rec.specs.declared.raw_box.RawBox.{RawBox}
 use Rattle.lt_mem.specs.Rising.{IsRising}
-use Rattle.lt_mem.specs.Lead.{IsLead}
+use Rattle.lt_mem.specs.Lead.{IsLead, AreLeads}
 
 abbrev pub first_key : List Record → List ℕ
 first_key [] = []
@@ -52,9 +52,11 @@ EachRises ps = (k : ℕ) → k < length ps → IsRising (piece_at ps k)
 abbrev pub AreWithin : List Record → ℕ → ℕ → Type 0
 AreWithin recs low high = All (λ r. (low ≤ r.ts) × (r.ts ≤ high)) recs
 
--- what is kept beside the records of a piece: the lead of its first key, and two timestamps that all lie between
-pub record IsSummed (recs : List Record) (lead low high : ℕ) : Type 0 where
+-- what is kept beside the records of a piece: the leads of its keys, the first of them apart, and two timestamps that all lie
+-- between
+pub record IsSummed (recs : List Record) (lead : ℕ) (leads : List ℕ) (low high : ℕ) : Type 0 where
   pub first : IsLead (first_key recs) lead
+  pub all : AreLeads recs leads
   pub times : AreWithin recs low high
 
 -- the record's timestamp is one of the box's times

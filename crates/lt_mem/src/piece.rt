@@ -2,7 +2,7 @@ ghost use Rattle.std.specs.Prelude.{◌≡◌, ◌<◌, ◌≤◌, [], ◌∷◌
 ghost use Rattle.std.specs.List.{insert};
 ghost use Rattle.std.specs.Arc.{arc_value};
 ghost use Rattle.lt_rec.specs.Records.{piece};
-ghost use Rattle.lt_mem.specs.Lead.{IsLead};
+ghost use Rattle.lt_mem.specs.Lead.{IsLead, AreLeads};
 ghost use Rattle.lt_mem.specs.Pieces.{AreWithin, AllHaveTime, NoneHasTime, first_key};
 
 use crate::lead::lead_of;
@@ -14,12 +14,13 @@ use std::sync::Arc;
 /// How many records a full vector makes room for at a time, so that little memory stays unused.
 const GROWTH: usize = 128;
 
-/// Neighbouring records, which lists of records may share, the lead of the first one's key, and two timestamps that theirs
-/// lie between. Contracts see the list.
+/// Neighbouring records, which lists of records may share, the leads of their keys, the first of them apart, and two
+/// timestamps that theirs lie between. Contracts see the list.
 #[derive(Drop)]
 pub struct Piece {
     lead: u128,
     recs: Arc<Vec<Rec>>,
+    leads: Vec<u128>,
     earliest: u64,
     latest: u64,
 }
@@ -34,12 +35,13 @@ impl Model for Piece {
 
     ghost view = { λ p. (arc_value p.recs).items };
 
-    ghost invariant = { λ p. IsSummed (arc_value p.recs).items p.lead p.earliest p.latest };
+    ghost invariant = { λ p. IsSummed (arc_value p.recs).items p.lead p.leads.items p.earliest p.latest };
 }
 
 impl Piece {
-    /// These records.
-    pub fn from_vec(alloc: Global, recs: Vec<Rec>) -> Result<Piece, Vec<Rec>>
+    /// These records, with the leads of their keys.
+    fn from_vec(alloc: Global, recs: Vec<Rec>, leads: Vec<u128>) -> Result<Piece, Vec<Rec>>
+        requires leads { AreLeads recs.items leads.items }
         ensures ok { IfOk result (λ piece. piece ≡ recs.items) }
         ensures handed_back { IfErr result (λ refused. refused ≡ recs) }
     {
@@ -49,6 +51,7 @@ impl Piece {
             Ok(recs) => Ok(Piece {
                 lead,
                 recs,
+                leads,
                 earliest,
                 latest,
             }),
@@ -61,12 +64,15 @@ impl Piece {
         ensures ok { IfOk result (λ piece. piece ≡ rec ∷ []) }
         ensures handed_back { IfErr result (λ refused. refused ≡ rec) }
     {
+        let Ok(leads) = Vec::from_slice(alloc, &[lead_of(rec.key())]) else {
+            return Err(rec);
+        };
         let mut recs = Vec::new(alloc);
         match recs.push(rec) {
             Ok(()) => {}
             Err(refused) => return Err(refused.value),
         }
-        match Piece::from_vec(alloc, recs) {
+        match Piece::from_vec(alloc, recs, leads) {
             Ok(piece) => Ok(piece),
             Err(mut recs) => match recs.pop() {
                 Some(rec) => Err(rec),
@@ -86,6 +92,13 @@ impl Piece {
         ensures { IsLead (first_key self.now) result }
     {
         self.lead
+    }
+
+    /// The leads of the records' keys.
+    pub fn leads(&self) -> &[u128]
+        ensures { AreLeads self.now result.now }
+    {
+        self.leads.as_slice()
     }
 
     /// The records from `from` up to `to`, shared.
@@ -120,15 +133,21 @@ impl Piece {
         ensures handed_back { IfErr result (λ refused. refused ≡ rec) }
     {
         let ts = rec.ts();
-        let lead = lead_with(self.lead, place, &rec);
+        let lead = lead_of(rec.key());
+        if place_in_vec(&mut self.leads, place, lead).is_err() {
+            return Err(rec);
+        }
         match put_in(&mut self.recs, place, rec) {
             Ok(()) => {
-                self.lead = lead;
+                self.lead = lead_with(self.lead, place, lead);
                 self.earliest = self.earliest.min(ts);
                 self.latest = self.latest.max(ts);
                 Ok(())
             }
-            Err(rec) => Err(rec),
+            Err(rec) => {
+                self.leads.remove(place);
+                Err(rec)
+            }
         }
     }
 
@@ -139,7 +158,11 @@ impl Piece {
         ensures given { IfOk result (λ piece. piece ≡ drop at self.old) }
         ensures unchanged { OnErr result (self.new ≡ self.old) }
     {
-        let given = tail_of(&mut self.recs, at)?;
+        let alloc = *self.leads.allocator();
+        let (_, leads) = self.leads.as_slice().split_at(at);
+        let given = tail_of(&mut self.recs, at, Vec::from_slice(alloc, leads)?)?;
+        self.leads.truncate(at);
+        self.leads.shrink_to_fit();
         let (earliest, latest) = times_of(self.recs.as_slice());
         self.lead = first_lead(self.recs.as_slice());
         self.earliest = earliest;
@@ -158,15 +181,12 @@ fn first_lead(recs: &[Rec]) -> u128
     }
 }
 
-/// The lead once the record is put at this place.
-fn lead_with(lead: u128, place: usize, rec: &Rec) -> u128
-    ensures first { place ≡ 0 → IsLead rec.now.key result }
-    ensures later { 0 < place → result ≡ lead }
+/// The first lead once this one is put at the place.
+fn lead_with(first: u128, place: usize, lead: u128) -> u128
+    ensures first { place ≡ 0 → result ≡ lead }
+    ensures later { 0 < place → result ≡ first }
 {
-    if place == 0 {
-        return lead_of(rec.key());
-    }
-    lead
+    if place == 0 { lead } else { first }
 }
 
 /// Two timestamps that those of the records lie between.
@@ -182,19 +202,19 @@ fn times_of(recs: &[Rec]) -> (u64, u64)
     (earliest, latest)
 }
 
-/// Puts the record at this place of a vector.
-fn place_in_vec(recs: &mut Vec<Rec>, place: usize, rec: Rec) -> Result<(), Rec>
-    requires within { place ≤ length recs.old.items }
-    ensures ok { OnOk result (recs.new.items ≡ insert recs.old.items place rec) }
-    ensures unchanged { OnErr result (recs.new.items ≡ recs.old.items) }
-    ensures handed_back { IfErr result (λ refused. refused ≡ rec) }
+/// Puts the element at this place of a vector.
+fn place_in_vec<T>(items: &mut Vec<T>, place: usize, item: T) -> Result<(), T>
+    requires within { place ≤ length items.old.items }
+    ensures ok { OnOk result (items.new.items ≡ insert items.old.items place item) }
+    ensures unchanged { OnErr result (items.new.items ≡ items.old.items) }
+    ensures handed_back { IfErr result (λ refused. refused ≡ item) }
 {
-    if recs.len() == recs.capacity() && recs.reserve_exact(GROWTH).is_err() {
-        return Err(rec);
+    if items.len() == items.capacity() && items.reserve_exact(GROWTH).is_err() {
+        return Err(item);
     }
-    match recs.push(rec) {
+    match items.push(item) {
         Ok(()) => {
-            let (_, behind) = recs.as_mut_slice().split_at_mut(place);
+            let (_, behind) = items.as_mut_slice().split_at_mut(place);
             behind.rotate_right(1);
             Ok(())
         }
@@ -215,15 +235,16 @@ fn put_in(recs: &mut Arc<Vec<Rec>>, place: usize, rec: Rec) -> Result<(), Rec>
 }
 
 /// Takes the records from this place on off a vector.
-fn cut_off(recs: &mut Vec<Rec>, at: usize) -> Result<Piece, NoMemory>
+fn cut_off(recs: &mut Vec<Rec>, at: usize, leads: Vec<u128>) -> Result<Piece, NoMemory>
     requires within { at ≤ length recs.old.items }
+    requires leads { AreLeads (drop at recs.old.items) leads.items }
     ensures kept { OnOk result (recs.new.items ≡ take at recs.old.items) }
     ensures given { IfOk result (λ piece. piece ≡ drop at recs.old.items) }
     ensures unchanged { OnErr result (recs.new.items ≡ recs.old.items) }
 {
     let alloc = *recs.allocator();
     let tail = recs.split_off(at)?;
-    match Piece::from_vec(alloc, tail) {
+    match Piece::from_vec(alloc, tail, leads) {
         Ok(piece) => {
             recs.shrink_to_fit();
             Ok(piece)
@@ -235,14 +256,15 @@ fn cut_off(recs: &mut Vec<Rec>, at: usize) -> Result<Piece, NoMemory>
     }
 }
 
-fn tail_of(recs: &mut Arc<Vec<Rec>>, at: usize) -> Result<Piece, NoMemory>
+fn tail_of(recs: &mut Arc<Vec<Rec>>, at: usize, leads: Vec<u128>) -> Result<Piece, NoMemory>
     requires within { at ≤ length (arc_value recs.old).items }
+    requires leads { AreLeads (drop at (arc_value recs.old).items) leads.items }
     ensures kept { OnOk result ((arc_value recs.new).items ≡ take at (arc_value recs.old).items) }
     ensures given { IfOk result (λ piece. piece ≡ drop at (arc_value recs.old).items) }
     ensures unchanged { OnErr result ((arc_value recs.new).items ≡ (arc_value recs.old).items) }
 {
     match Arc::make_mut(recs) {
-        Ok(recs) => cut_off(recs, at),
+        Ok(recs) => cut_off(recs, at, leads),
         Err(_) => Err(NoMemory),
     }
 }

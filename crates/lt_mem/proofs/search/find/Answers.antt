@@ -2,6 +2,7 @@ use Rattle.std.proofs.Common.{◌≡◌, ℕ, ◌<◌, ◌≤◌, true, List, []
 use Rattle.std.proofs.lemmas.List.{get_or_default}
 use Rattle.lt_rec.specs.Bytes.{is_less}
 use Rattle.lt_rec.specs.Record.{Record}
+use Rattle.lt_mem.specs.Lead.{AreLeads}
 use Rattle.lt_mem.specs.Rising.{IsRising}
 use Rattle.lt_mem.specs.Pieces.{piece_at}
 use Rattle.lt_mem.proofs.Gap.{piece_rises, gap}
@@ -11,7 +12,11 @@ pub place_in-requires : goal.place_in-requires
 place_in-requires c =
     let at = c.piece_for-at.result in
     let same : piece_at c.args.pieces.now at ≡ c.as_slice.result.now = get_or_default c.args.pieces.now at [] c.index-pieces-at.result c.piece_for-at.ensures.within ∙ sym c.index-pieces-at.is ∙ sym c.as_slice.ensures in
-    record { rising = subst IsRising same (piece_rises c.args.pieces.now at c.requires.lined c.piece_for-at.ensures.within) }
+    record {
+      rising = subst IsRising same (piece_rises c.args.pieces.now at c.requires.lined c.piece_for-at.ensures.within);
+      leads = subst (λ (xs : List Record). AreLeads xs c.leads.result.now) (sym c.as_slice.ensures) c.leads.ensures;
+      lead = c.lead_of-lead.ensures;
+    }
 
 pub returns-in-Err-clause-gap : goal.returns-in-Err-clause-gap
 returns-in-Err-clause-gap c =
