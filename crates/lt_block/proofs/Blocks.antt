@@ -3,17 +3,18 @@ use Rattle.std.proofs.Common.{◌≡◌, ℕ, zero, suc, ◌+◌, ◌-◌, ◌*�
 use Rattle.std.specs.List.{flat_map, AllByRecursion}
 use Rattle.std.specs.Prelude.{IfOk, IfErr}
 use Rattle.std.specs.Global.{Vec}
-use Rattle.std.specs.Int.{w32, w64, to_be_bytes, from_be_bytes}
+use Rattle.std.specs.Int.{w32, to_be_bytes}
 use Rattle.std.proofs.lemmas.Bool.{ltb-false, ltb-true, le-ltb, lt-ltb, eqb-true}
 use Rattle.std.proofs.lemmas.List.{append-nil, length-append, length-drop, drop_at}
-use Rattle.lt_rec.specs.Bytes.{is_less}
-use Rattle.lt_rec.specs.Record.{Record, IsRecord, stored_len, time_of}
-use Rattle.lt_block.specs.declared.fault.BlockError.{BlockError}
-use Rattle.lt_block.specs.declared.fault.BlockError.TheVariants as errors
-use Rattle.lt_block.specs.Spelling.{spelled, spelling, IsBlock, places}
-use Rattle.lt_block.specs.Reading.{◌>>=◌, Fails, Gives, number_at, count_at, record_at, records_at, ended, block_at, places_at, ok_or_none, records_in, IsRead}
-use Rattle.lt_block.proofs.Fields.{IsBytes, bind_ok, guard_yes, ok_is, Takes, Takes-then, wide32, wide64, number_takes, number_again}
-use Rattle.lt_block.proofs.Records.{spelled_len, record_again, records_take, records_again}
+use Rattle.lt_rec.specs.Record.{Record, IsRecord, spelled, stored_len}
+use Rattle.lt_rec.specs.declared.fault.FormatError.{FormatError}
+use Rattle.lt_rec.specs.declared.fault.FormatError.TheVariants as errors
+use Rattle.lt_block.specs.Spelling.{spelling, IsBlock, places}
+use Rattle.lt_rec.specs.Reading.{◌>>=◌, Fails, Gives, number_at, ended}
+use Rattle.lt_block.specs.Reading.{count_at, records_at, block_at, places_at, ok_or_none, records_in, IsRead}
+use Rattle.lt_rec.proofs.Reading.{IsBytes, bind_ok, guard_yes, ok_is, Takes, Takes-then, wide32, number_takes, number_again}
+use Rattle.lt_rec.proofs.Stored.{spelled_len}
+use Rattle.lt_block.proofs.Records.{records_take, records_again}
 use Rattle.lt_block.proofs.Loop.{err_is}
 
 count_takes : (bytes : List ℕ) (x : ℕ × List ℕ) → IsBytes bytes → count_at bytes ≡ Ok x → Takes bytes (to_be_bytes w32 x.0) x.1 × (0 < x.0)
@@ -87,7 +88,7 @@ is_read bytes offsets fits e =
     let law = block_takes bytes (records_in bytes) fits t.0 in
     record { read = t.0; block = law.0; spelled = law.1; placed = t.1 }
 
-pub table_err : (e : BlockError) (read : Result (List Record) ℕ) → Fails e (read >>= λ recs. Ok (places 4 recs)) → Fails e read
+pub table_err : (e : FormatError) (read : Result (List Record) ℕ) → Fails e (read >>= λ recs. Ok (places 4 recs)) → Fails e read
 table_err errors.NoMemory read h = tt
 table_err (errors.Bad at) (Ok recs) h = absurd cc
 table_err (errors.Bad at) (Err f) h = err_is f at h
@@ -105,10 +106,6 @@ at_place front at (r ∷ recs) (suc i) d len lt =
     let next : length (front ++ spelled r) ≡ at + stored_len r = omega (arith, length-append front (spelled r), spelled_len r, len) in
     ap (drop (get_or (places (at + stored_len r) recs) i 0)) (sym (append_assoc front (spelled r) (flat_map spelled recs))) ∙ at_place (front ++ spelled r) (at + stored_len r) recs i d next (omega arith)
 
-above_empty : (key : List ℕ) → 8 ≤ length key → is_less [] key ≡ true
-above_empty [] long = absurd (omega arith)
-above_empty (b ∷ key) long = refl
-
 lawful_at : (recs : List Record) (i : ℕ) (d : Record) → i < length recs → AllByRecursion IsRecord recs → IsRecord (get_or recs i d)
 lawful_at [] i d lt h = absurd (omega arith)
 lawful_at (r ∷ recs) zero d lt h = h.0
@@ -118,7 +115,7 @@ lawful_at (r ∷ recs) (suc i) d lt h = lawful_at recs i d (omega arith) h.1
 pub record Lies (bytes : List ℕ) (recs : List Record) (at i : ℕ) (d : Record) : Type 0 where
   pub within : at ≤ length bytes
   pub lawful : IsRecord (get_or recs i d)
-  pub read : record_at 0 [] (drop at bytes) ≡ Ok (get_or recs i d, flat_map spelled (drop (suc i) recs))
+  pub begins : drop at bytes ≡ spelled (get_or recs i d) ++ flat_map spelled (drop (suc i) recs)
 
 pub lies : (bytes offsets : List ℕ) (i : ℕ) (d : Record) → IsRead bytes offsets → i < length (records_in bytes) → Lies bytes (records_in bytes) (get_or offsets i 0) i d
 lies bytes offsets i d h lt =
@@ -129,38 +126,23 @@ lies bytes offsets i d h lt =
     record {
       within = omega (arith, length-drop (get_or offsets i 0) bytes, ap length there, length-append (spelled (get_or (records_in bytes) i d)) (flat_map spelled (drop (suc i) (records_in bytes))), spelled_len (get_or (records_in bytes) i d));
       lawful = law;
-      read = ap (record_at 0 []) there ∙ record_again 0 [] (get_or (records_in bytes) i d) (flat_map spelled (drop (suc i) (records_in bytes))) law (above_empty (get_or (records_in bytes) i d).key law.long_enough);
+      begins = there;
     }
 
 -- ---- what reading answers
 
-pub table_reads : (bytes : List ℕ) (r : Result (Vec ℕ) BlockError) → IsBytes bytes → Gives (λ v. v.items) r (places_at bytes) → IfOk r (λ v. IsRead bytes v.items)
+pub table_reads : (bytes : List ℕ) (r : Result (Vec ℕ) FormatError) → IsBytes bytes → Gives (λ v. v.items) r (places_at bytes) → IfOk r (λ v. IsRead bytes v.items)
 table_reads bytes (Ok v) fits given = is_read bytes v.items fits given
 table_reads bytes (Err e) fits given = tt
 
-pub table_fails : (bytes : List ℕ) (r : Result (Vec ℕ) BlockError) → Gives (λ v. v.items) r (places_at bytes) → IfErr r (λ e. Fails e (block_at bytes))
+pub table_fails : (bytes : List ℕ) (r : Result (Vec ℕ) FormatError) → Gives (λ v. v.items) r (places_at bytes) → IfErr r (λ e. Fails e (block_at bytes))
 table_fails bytes (Ok v) given = tt
 table_fails bytes (Err e) given = table_err e (block_at bytes) given
 
-pub only_so : (bytes : List ℕ) (recs : List Record) (r : Result (List Record) BlockError) → Gives (λ b. b) r (block_at bytes) → IsBlock recs → bytes ≡ spelling recs → Gives (λ b. b) r (Ok recs)
+pub only_so : (bytes : List ℕ) (recs : List Record) (r : Result (List Record) FormatError) → Gives (λ b. b) r (block_at bytes) → IsBlock recs → bytes ≡ spelling recs → Gives (λ b. b) r (Ok recs)
 only_so bytes recs r given h e = subst (Gives (λ b. b) r) (ap block_at e ∙ block_again recs h) given
-
-pub time_is : (r : Record) → IsRecord r → time_of r.key ≡ r.ts
-time_is r h = ap (from_be_bytes w64) h.timed ∙ wide64.again r.ts h.moment
 
 -- ---- the table
 
 pub table_len : (bytes offsets : List ℕ) → IsRead bytes offsets → length offsets ≡ length (records_in bytes)
 table_len bytes offsets h = ap length h.placed ∙ length_places 4 (records_in bytes)
-
-pub found_there : (bytes offsets : List ℕ) (i : ℕ) (r : Record) (rest left : List ℕ) → IsRead bytes offsets → i < length (records_in bytes) → rest ≡ drop (get_or offsets i 0) bytes → record_at 0 [] rest ≡ Ok (r, left) → (get_or (records_in bytes) i r ≡ r) × IsRecord r
-found_there bytes offsets i r rest left h lt e read =
-    let there = lies bytes offsets i r h lt in
-    let same : get_or (records_in bytes) i r ≡ r = ap (λ (x : Record × List ℕ). x.0) (ok_is (get_or (records_in bytes) i r, flat_map spelled (drop (suc i) (records_in bytes))) (r, left) (sym there.read ∙ (ap (record_at 0 []) (sym e) ∙ read))) in
-    (same, subst IsRecord same there.lawful)
-
-pub never_bad : (bytes offsets : List ℕ) (i at : ℕ) (d : Record) (rest : List ℕ) → IsRead bytes offsets → i < length (records_in bytes) → rest ≡ drop (get_or offsets i 0) bytes → record_at 0 [] rest ≡ Err at → ⊥
-never_bad bytes offsets i at d rest h lt e read =
-    let there = lies bytes offsets i d h lt in
-    let no : Ok (get_or (records_in bytes) i d, flat_map spelled (drop (suc i) (records_in bytes))) ≡ Err at = sym there.read ∙ (ap (record_at 0 []) (sym e) ∙ read) in
-    cc

@@ -4,11 +4,12 @@ use Rattle.std.specs.List.{flat_map, AllByRecursion}
 use Rattle.std.specs.Int.{w32, to_be_bytes}
 use Rattle.std.proofs.lemmas.List.{append-nil, length-append, length-drop, length_push}
 use Rattle.lt_rec.specs.Bytes.{is_less}
-use Rattle.lt_rec.specs.Record.{Record, IsRecord, stored_len}
-use Rattle.lt_block.specs.Spelling.{spelled, spelling, Rises, IsBlock, last_key}
+use Rattle.lt_rec.specs.Record.{Record, IsRecord, spelled, stored_len}
+use Rattle.lt_rec.proofs.Stored.{spelled_len}
+use Rattle.lt_block.specs.Spelling.{spelling, Rises, IsBlock, last_key}
 use Rattle.lt_block.specs.Reading.{records_at}
 use Rattle.lt_block.specs.Filling.{first_or_none, held, Holds}
-use Rattle.lt_block.proofs.Records.{spelled_len, records_again}
+use Rattle.lt_block.proofs.Records.{records_again}
 use Rattle.lt_block.proofs.Blocks.{all_len}
 
 rises_push : (last : List ℕ) (recs : List Record) (r : Record) → Rises last recs → is_less (last_key last recs) r.key ≡ true → Rises last (recs ++ r ∷ [])
@@ -66,13 +67,3 @@ finished count bytes recs h = ap (λ (n : ℕ). to_be_bytes w32 n ++ drop 4 byte
 
 pub few : (count : ℕ) (bytes : List ℕ) (recs : List Record) → Holds count bytes recs → count < 65536
 few count bytes recs h = omega (arith, h.counted, h.small, all_len recs, length-append (to_be_bytes w32 (length recs)) (flat_map spelled recs))
-
-pub six_parts : (o a b c d k x a' b' c' d' k' x' t0 t1 t2 t3 t4 t5 t6 : List ℕ) → t0 ≡ o → t1 ≡ t0 ++ a → t2 ≡ t1 ++ b → t3 ≡ t2 ++ c → t4 ≡ t3 ++ d → t5 ≡ t4 ++ k → t6 ≡ t5 ++ x
-    → a ≡ a' → b ≡ b' → c ≡ c' → d ≡ d' → k ≡ k' → x ≡ x' → t6 ≡ o ++ (a' ++ (b' ++ (c' ++ (d' ++ (k' ++ x')))))
-six_parts o a b c d k x a' b' c' d' k' x' t0 t1 t2 t3 t4 t5 t6 e0 e1 e2 e3 e4 e5 e6 pa pb pc pd pk px =
-    let s1 : t1 ≡ o ++ a' = e1 ∙ (ap (λ (t : List ℕ). t ++ a) e0 ∙ ap (λ (t : List ℕ). o ++ t) pa) in
-    let s2 : t2 ≡ (o ++ a') ++ b' = e2 ∙ (ap (λ (t : List ℕ). t ++ b) s1 ∙ ap (λ (t : List ℕ). (o ++ a') ++ t) pb) in
-    let s3 : t3 ≡ ((o ++ a') ++ b') ++ c' = e3 ∙ (ap (λ (t : List ℕ). t ++ c) s2 ∙ ap (λ (t : List ℕ). ((o ++ a') ++ b') ++ t) pc) in
-    let s4 : t4 ≡ (((o ++ a') ++ b') ++ c') ++ d' = e4 ∙ (ap (λ (t : List ℕ). t ++ d) s3 ∙ ap (λ (t : List ℕ). (((o ++ a') ++ b') ++ c') ++ t) pd) in
-    let s5 : t5 ≡ ((((o ++ a') ++ b') ++ c') ++ d') ++ k' = e5 ∙ (ap (λ (t : List ℕ). t ++ k) s4 ∙ ap (λ (t : List ℕ). ((((o ++ a') ++ b') ++ c') ++ d') ++ t) pk) in
-    e6 ∙ (ap (λ (t : List ℕ). t ++ x) s5 ∙ (ap (λ (t : List ℕ). (((((o ++ a') ++ b') ++ c') ++ d') ++ k') ++ t) px ∙ simp append_assoc))

@@ -3,11 +3,12 @@ use Rattle.std.proofs.Common.{◌≡◌, ℕ, suc, true, false, eqb, ltb, length
 use Rattle.std.proofs.lemmas.Bool.{eq-eqb, ne_eqb, lt-ltb, le-ltb}
 use Rattle.std.proofs.lemmas.List.{append-nil}
 use Rattle.lt_rec.specs.Record.{Record, stored_len}
-use Rattle.lt_block.specs.declared.fault.BlockError.{BlockError}
-use Rattle.lt_block.specs.declared.fault.BlockError.TheVariants as errors
+use Rattle.lt_rec.specs.declared.fault.FormatError.{FormatError}
+use Rattle.lt_rec.specs.declared.fault.FormatError.TheVariants as errors
 use Rattle.lt_block.specs.Spelling.{places}
-use Rattle.lt_block.proofs.Fields.{ok_is}
-use Rattle.lt_block.specs.Reading.{◌>>=◌, Fails, count_at, record_at, records_at, ended, block_at, placed, places_at}
+use Rattle.lt_rec.proofs.Reading.{ok_is}
+use Rattle.lt_rec.specs.Reading.{◌>>=◌, Fails, ended}
+use Rattle.lt_block.specs.Reading.{count_at, record_at, records_at, block_at, placed, places_at}
 
 -- the places of what was read before, and of what is still read
 abbrev pub with_front : List ℕ → Result (List ℕ × List ℕ) ℕ → Result (List ℕ × List ℕ) ℕ
@@ -26,7 +27,7 @@ goes_on front count i at next last bytes r after total lt e h so_far =
     rw (k, h) (regroup front at r (records_at (count - (i + 1)) (at + stored_len r) r.key after)) in
     ap (λ (n : ℕ). with_front (front ++ at ∷ []) (placed n (records_at (count - (i + 1)) n r.key after))) e ∙ (sym one ∙ so_far)
 
-pub ends : (e : BlockError) (front : List ℕ) (count i at : ℕ) (last bytes : List ℕ) (total : Result (List ℕ × List ℕ) ℕ) → i < count → Fails e (record_at at last bytes)
+pub ends : (e : FormatError) (front : List ℕ) (count i at : ℕ) (last bytes : List ℕ) (total : Result (List ℕ × List ℕ) ℕ) → i < count → Fails e (record_at at last bytes)
     → with_front front (placed at (records_at (count - i) at last bytes)) ≡ total → Fails e total
 unfolding records_at
 ends errors.NoMemory front count i at last bytes total lt h so_far = tt
@@ -70,7 +71,7 @@ failed at = Err at
 pub err_is : {A B : Type 0} (f at : ℕ) → failed {A = A} f ≡ failed {A = A} at → failed {A = B} f ≡ failed {A = B} at
 err_is f at h = let e : f ≡ at = cc in ap failed e
 
-pub broken : (e : BlockError) (total : ℕ) (read : Result (List Record × List ℕ) ℕ) → Fails e (placed 4 read) → Fails e (behind total read)
+pub broken : (e : FormatError) (total : ℕ) (read : Result (List Record × List ℕ) ℕ) → Fails e (placed 4 read) → Fails e (behind total read)
 broken errors.NoMemory total read h = tt
 broken (errors.Bad at) total (Ok x) h = absurd cc
 broken (errors.Bad at) total (Err f) h = err_is f at h
@@ -81,7 +82,7 @@ too_long bytes lt =
     let test : ltb 65536 (length bytes) ≡ true = lt-ltb _ _ lt in
     rw test refl
 
-pub no_count : (e : BlockError) (bytes : List ℕ) → length bytes ≤ 65536 → Fails e (count_at bytes) → Fails e (places_at bytes)
+pub no_count : (e : FormatError) (bytes : List ℕ) → length bytes ≤ 65536 → Fails e (count_at bytes) → Fails e (places_at bytes)
 unfolding block_at
 no_count errors.NoMemory bytes le h = tt
 no_count (errors.Bad at) bytes le h =

@@ -1,14 +1,17 @@
 -- The two laws of records: what is read is spelled so, and what is spelled so is read.
 use Rattle.std.proofs.Common.{◌≡◌, ℕ, zero, suc, ◌+◌, ◌-◌, ◌^◌, ◌<◌, ◌≤◌, Bool, true, false, ltb, ◌||◌, List, [], ◌∷◌, ◌++◌, length, take, drop, Result, Ok, refl, sym, ap, subst, ◌∙◌, append_assoc, arith}
 use Rattle.std.specs.List.{flat_map, AllByRecursion}
-use Rattle.std.specs.Int.{w32, w64, from_be_bytes, to_be_bytes}
+use Rattle.std.specs.Int.{w32, w64, to_be_bytes}
 use Rattle.std.proofs.lemmas.Bool.{le-ltb}
-use Rattle.std.proofs.lemmas.List.{take_at, length-append, length-drop}
+use Rattle.std.proofs.lemmas.List.{take_at, length-append}
 use Rattle.lt_rec.specs.Bytes.{is_less}
-use Rattle.lt_rec.specs.Record.{Record, IsRecord, stored_len, time_of}
-use Rattle.lt_block.specs.Spelling.{spelled, Rises}
-use Rattle.lt_block.specs.Reading.{◌>>=◌, number_at, bytes_at, may_follow, key_len_at, body_len_at, seq_at, record_at, records_at}
-use Rattle.lt_block.proofs.Fields.{IsBytes, IsBytes-drop, bind_ok, ok_is, Takes, Takes-then, wide32, wide64, number_takes, number_again, bytes_take, bytes_again, KeyLength, key_len_takes, key_len_again, body_len_takes, body_len_again, seq_takes, seq_again}
+use Rattle.lt_rec.specs.Record.{Record, IsRecord, IsStored, made, spelled, stored_len, stored_record}
+use Rattle.lt_rec.proofs.Stored.{first_is, made_lawful, spelled_len, stored_again, stored_is, time_is}
+use Rattle.lt_block.specs.Spelling.{Rises}
+use Rattle.lt_rec.specs.Reading.{◌>>=◌, number_at, bytes_at}
+use Rattle.lt_block.specs.Reading.{may_follow, key_len_at, body_len_at, seq_at, record_at, records_at}
+use Rattle.lt_rec.proofs.Reading.{IsBytes, bind_ok, ok_is, Takes, Takes-then, wide32, number_takes, number_again, bytes_take, bytes_again}
+use Rattle.lt_block.proofs.Fields.{KeyLength, key_len_takes, key_len_again, body_len_takes, body_len_again, seq_takes, seq_again}
 
 or_right : (a b : Bool) → (a || b) ≡ true → a ≡ false → b ≡ true
 or_right true b e f = absurd cc
@@ -18,16 +21,10 @@ or_true : (a b : Bool) → b ≡ true → (a || b) ≡ true
 or_true true b e = refl
 or_true false b e = e
 
-pub spelled_len : (r : Record) → length (spelled r) ≡ stored_len r
-spelled_len r = omega (arith, length-append r.key r.body)
-
 key_place : (r : Record) (rest : List ℕ) → take (length r.key) (drop 20 (spelled r ++ rest)) ≡ r.key
 key_place r rest = ap (take (length r.key)) (append_assoc r.key r.body rest) ∙ take_at r.key (r.body ++ rest) (length r.key) refl
 
 -- ---- reading a record, field by field
-
-abbrev made : List ℕ → ℕ → ℕ → List ℕ → Record
-made key seq ver body = record { key = key; ts = time_of key; seq = seq; ver = ver; body = body }
 
 abbrev from_body : (at kl bl seq ver : ℕ) → List ℕ × List ℕ → Result (Record × List ℕ) ℕ
 from_body at kl bl seq ver key = bytes_at bl (at + 20 + kl) key.1 >>= λ body. Ok (made key.0 seq ver body.0, body.1)
@@ -49,17 +46,6 @@ pub record Found (last bytes : List ℕ) (x : Record × List ℕ) : Type 0 where
   pub takes : Takes bytes (spelled x.0) x.1
   pub lawful : IsRecord x.0
   pub above : is_less last x.0.key ≡ true
-
-made_lawful : (key : List ℕ) (seq ver : ℕ) (body : List ℕ) → 8 ≤ length key → length key ≤ 4096 → seq < 2 ^ 62 → ver < 2 ^ 32 → length body ≤ 60000 → IsBytes key → IsRecord (made key seq ver body)
-made_lawful key seq ver body long short numbered version small fits = record {
-  long_enough = long;
-  short_enough = short;
-  timed = sym (wide64.back (drop (length key - 8) key) (omega (arith, length-drop (length key - 8) key)) (IsBytes-drop (length key - 8) key fits));
-  moment = wide64.below (drop (length key - 8) key) (IsBytes-drop (length key - 8) key fits);
-  numbered = numbered;
-  version = version;
-  small_body = small;
-}
 
 found_record : (last bytes : List ℕ) (kl bl seq ver : ℕ × List ℕ) (key body : List ℕ × List ℕ)
     → Takes bytes (to_be_bytes w32 kl.0) kl.1 → Takes kl.1 (to_be_bytes w32 bl.0) bl.1 → Takes bl.1 (to_be_bytes w64 seq.0) seq.1 → Takes seq.1 (to_be_bytes w32 ver.0) ver.1 → Takes ver.1 key.0 key.1 → Takes key.1 body.0 body.1
@@ -120,7 +106,36 @@ record_again at last r rest h above =
     ∙ (ap (λ (q : Result (ℕ × List ℕ) ℕ). q >>= from_key at kl bl r.seq) (number_again w32 (2 ^ 32) wide32 (at + 16) r.ver r4 h.version)
     ∙ (ap (λ (q : Result (List ℕ × List ℕ) ℕ). q >>= from_body at kl bl r.seq r.ver) (bytes_again (at + 20) r.key (r.body ++ rest))
     ∙ (ap (λ (q : Result (List ℕ × List ℕ) ℕ). q >>= λ body. Ok (made r.key r.seq r.ver body.0, body.1)) (bytes_again (at + 20 + kl) r.body rest)
-    ∙ ap (λ (ts : ℕ). Ok (record { key = r.key; ts = ts; seq = r.seq; ver = r.ver; body = r.body }, rest)) (ap (from_be_bytes w64) h.timed ∙ wide64.again r.ts h.moment)))))))
+    ∙ ap (λ (ts : ℕ). Ok (record { key = r.key; ts = ts; seq = r.seq; ver = r.ver; body = r.body }, rest)) (time_is r h)))))))
+
+pub record_is : (at : ℕ) (last bytes : List ℕ) (kl bl seq ver : ℕ × List ℕ) (key body : List ℕ × List ℕ)
+    → key_len_at at last bytes ≡ Ok kl → body_len_at (at + 4) kl.1 ≡ Ok bl → seq_at (at + 8) bl.1 ≡ Ok seq → number_at w32 (at + 16) seq.1 ≡ Ok ver → bytes_at kl.0 (at + 20) ver.1 ≡ Ok key → bytes_at bl.0 (at + 20 + kl.0) key.1 ≡ Ok body
+    → record_at at last bytes ≡ Ok (made key.0 seq.0 ver.0 body.0, body.1)
+unfolding record_at
+record_is at last bytes kl bl seq ver key body a b c d k g =
+    ap (λ (q : Result (ℕ × List ℕ) ℕ). q >>= from_body_len at) a
+    ∙ (ap (λ (q : Result (ℕ × List ℕ) ℕ). q >>= from_seq at kl.0) b
+    ∙ (ap (λ (q : Result (ℕ × List ℕ) ℕ). q >>= from_ver at kl.0 bl.0) c
+    ∙ (ap (λ (q : Result (ℕ × List ℕ) ℕ). q >>= from_key at kl.0 bl.0 seq.0) d
+    ∙ (ap (λ (q : Result (List ℕ × List ℕ) ℕ). q >>= from_body at kl.0 bl.0 seq.0 ver.0) k
+    ∙ ap (λ (q : Result (List ℕ × List ℕ) ℕ). q >>= λ body. Ok (made key.0 seq.0 ver.0 body.0, body.1)) g))))
+
+-- a record that was read, and the bytes that it was read from
+pub record IsFound (stored bytes : List ℕ) (r : Record) (rest : List ℕ) : Type 0 where
+  pub stored_is : IsStored stored
+  pub record_is : stored_record stored ≡ r
+  pub len : stored_len r + length rest ≡ length bytes
+
+pub is_found : (at : ℕ) (last bytes stored : List ℕ) (r : Record) (rest : List ℕ) → IsBytes bytes → record_at at last bytes ≡ Ok (r, rest) → stored ≡ take (length bytes - length rest) bytes → IsFound stored bytes r rest
+is_found at last bytes stored r rest fits e cut =
+    let found = record_takes at last bytes (r, rest) fits e in
+    let long : length bytes ≡ length (spelled r) + length rest = ap length found.takes.parts ∙ length-append (spelled r) rest in
+    let front : stored ≡ spelled r = cut ∙ first_is r rest bytes (length bytes - length rest) found.takes.parts (omega (arith, long)) in
+    record {
+      stored_is = subst IsStored (sym front) (stored_again r found.lawful);
+      record_is = ap stored_record front ∙ stored_is r found.lawful;
+      len = omega (arith, long, spelled_len r);
+    }
 
 -- ---- records one after the other
 

@@ -1,8 +1,8 @@
 -- A block that fills: four bytes for the number of records, once there is one, and the records.
 use Rattle.std.specs.Prelude.{◌≡◌, ℕ, ◌<◌, ◌≤◌, List, [], length, drop, Result, Ok, Err}
 use Rattle.std.specs.List.{flat_map, AllByRecursion}
-use Rattle.lt_rec.specs.Record.{Record, IsRecord}
-use Rattle.lt_block.specs.Spelling.{spelled, spelling, Rises}
+use Rattle.lt_rec.specs.Record.{Record, IsRecord, spelled}
+use Rattle.lt_block.specs.Spelling.{spelling, Rises}
 use Rattle.lt_block.specs.Reading.{records_at}
 
 abbrev pub first_or_none : Result (List Record × List ℕ) ℕ → List Record

@@ -1,45 +1,17 @@
 -- Reading a block from left to right. What breaks a rule first is named by its offset.
-use Rattle.std.specs.Prelude.{◌≡◌, ℕ, zero, suc, ◌+◌, ◌-◌, ◌^◌, Bool, ◌&&◌, ◌||◌, ◌==◌, nat_lt, nat_le, List, [], ◌∷◌, length, take, drop, Result, Ok, Err, if◌then◌else◌}
-use Rattle.std.specs.Int.{Width, w32, w64, byte_len, from_be_bytes}
+use Rattle.std.specs.Prelude.{◌≡◌, ℕ, zero, suc, ◌+◌, ◌^◌, Bool, ◌&&◌, ◌||◌, nat_lt, nat_le, List, [], ◌∷◌, length, take, drop, Result, Ok, Err, if◌then◌else◌}
+use Rattle.std.specs.Int.{w32, w64}
 use Rattle.lt_rec.specs.Bytes.{is_less}
 use Rattle.lt_rec.specs.Record.{Record, stored_len, time_of}
+use Rattle.lt_rec.specs.Reading.{◌>>=◌, number_at, bytes_at, ended, is_within}
 use Rattle.lt_block.specs.Spelling.{places, spelling, IsBlock}
-use Rattle.lt_block.specs.declared.fault.Fault.{Fault}
-use Rattle.lt_block.specs.declared.fault.BlockError.{BlockError}
-use Rattle.lt_block.specs.declared.fault.BlockError.TheVariants as errors
-
-infixl 10 ◌>>=◌
-abbrev pub ◌>>=◌ : {A B : Type 0} → Result A ℕ → (A → Result B ℕ) → Result B ℕ
-(Ok x) >>= f = f x
-(Err at) >>= f = Err at
-
--- what a call returned, seen by `view`, is what reading gives, unless memory ran out
-abbrev pub Fails : {Y : Type 0} → BlockError → Result Y ℕ → Type 0
-Fails errors.NoMemory read = Unit {0}
-Fails (errors.Bad at) read = read ≡ Err at
-
-abbrev pub Gives : {X Y : Type 0} → (X → Y) → Result X BlockError → Result Y ℕ → Type 0
-Gives view (Ok x) read = read ≡ Ok (view x)
-Gives view (Err e) read = Fails e read
-
--- the same, for what takes no memory
-abbrev pub Reads : {X Y : Type 0} → (X → Y) → Result X Fault → Result Y ℕ → Type 0
-Reads view (Ok x) read = read ≡ Ok (view x)
-Reads view (Err fault) read = read ≡ Err fault.at
-
--- A field is a value and the bytes after it. Where the bytes end in it, it is named.
-abbrev pub number_at : Width → ℕ → List ℕ → Result (ℕ × List ℕ) ℕ
-number_at w at bytes = if nat_lt (length bytes) (byte_len w) then Err at else Ok (from_be_bytes w (take (byte_len w) bytes), drop (byte_len w) bytes)
-
-abbrev pub bytes_at : ℕ → ℕ → List ℕ → Result (List ℕ × List ℕ) ℕ
-bytes_at n at bytes = if nat_lt (length bytes) n then Err at else Ok (take n bytes, drop n bytes)
 
 -- the record's key, which lies behind 20 bytes: it is not whole, or above the last one
 abbrev pub may_follow : List ℕ → ℕ → List ℕ → Bool
 may_follow last n bytes = nat_lt (length bytes) (20 + n) || is_less last (take n (drop 20 bytes))
 
 abbrev pub is_key_len : ℕ → Bool
-is_key_len n = nat_le 8 n && nat_le n 4096
+is_key_len n = is_within 8 4096 n
 
 -- The key's length. A key that is whole and not above the last one is a fault of the record's first byte, so that it
 -- is found before what comes later in the record.
@@ -80,10 +52,6 @@ unfoldable pub count_at : List ℕ → Result (ℕ × List ℕ) ℕ
 count_at bytes = do
   n ← number_at w32 0 bytes
   if nat_lt 0 n.0 then Ok n else Err 0
-
--- nothing is left behind the records
-abbrev pub ended : {A : Type 0} → ℕ → A × List ℕ → Result A ℕ
-ended total x = if length x.1 == 0 then Ok x.0 else Err (total - length x.1)
 
 -- all of the bytes: the records of a block, or the offset of the first fault
 unfoldable pub block_at : List ℕ → Result (List Record) ℕ

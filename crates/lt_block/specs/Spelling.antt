@@ -1,13 +1,9 @@
 -- What a block is, and the one spelling of each.
 use Rattle.std.specs.Prelude.{◌≡◌, ℕ, ◌+◌, ◌≤◌, ◌<◌, true, List, [], ◌∷◌, ◌++◌, length}
 use Rattle.std.specs.List.{flat_map, AllByRecursion}
-use Rattle.std.specs.Int.{w32, w64, to_be_bytes}
+use Rattle.std.specs.Int.{w32, to_be_bytes}
 use Rattle.lt_rec.specs.Bytes.{is_less}
-use Rattle.lt_rec.specs.Record.{Record, IsRecord, stored_len}
-
--- the two lengths, the number, the version, the key, the body
-abbrev pub spelled : Record → List ℕ
-spelled r = to_be_bytes w32 (length r.key) ++ (to_be_bytes w32 (length r.body) ++ (to_be_bytes w64 r.seq ++ (to_be_bytes w32 r.ver ++ (r.key ++ r.body))))
+use Rattle.lt_rec.specs.Record.{Record, IsRecord, spelled, stored_len}
 
 -- the number of records, and the records one after the other
 abbrev pub spelling : List Record → List ℕ

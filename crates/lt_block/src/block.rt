@@ -2,14 +2,13 @@ ghost use Rattle.std.specs.Prelude.{◌≡◌, ◌<◌, ℕ, List, Ok, length, s
 ghost use Rattle.lt_rec.specs.Boxes.{is_below};
 ghost use Rattle.lt_rec.specs.Record.{Record, IsRecord};
 ghost use Rattle.lt_block.specs.Spelling.{IsBlock, spelling, places};
-ghost use Rattle.lt_block.specs.Reading.{Gives, block_at};
+ghost use Rattle.lt_rec.specs.Reading.{Gives};
+ghost use Rattle.lt_block.specs.Reading.{block_at};
 
-use crate::fault::BlockError;
 use crate::reading::table_of;
 use crate::table::{offset_in, record_in, seek_in};
-use crate::view::RecView;
 use bytes::Bytes;
-use lt_rec::{Cut, NoMemory, Rec};
+use lt_rec::{Cut, FormatError, NoMemory, Rec, RecView};
 use std::alloc::Global;
 use std::marker::Model;
 
@@ -34,7 +33,7 @@ impl Model for Block {
 
 impl Block {
     /// The block that the bytes are. They are kept, and not copied.
-    pub fn read(alloc: Global, bytes: Bytes) -> Result<Block, BlockError>
+    pub fn read(alloc: Global, bytes: Bytes) -> Result<Block, FormatError>
         // What the format's reading gives: the records, or the offset of the first fault.
         ensures exact { Gives (λ block. block) result (block_at bytes) }
         // What is read is so spelled.

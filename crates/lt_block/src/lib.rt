@@ -3,19 +3,13 @@
 #![tactic(auto)]
 
 mod block;
-mod fault;
 mod laws;
 mod reading;
 mod table;
-mod view;
 mod writer;
 
 pub use block::Block;
-pub use fault::{BlockError, Fault};
 pub use laws::block_laws;
-pub use reading::{LONGEST_BLOCK, bytes_of, record_of, u32_at, u64_at};
-pub use view::RecView;
+pub use lt_rec::{Fault, FormatError, RecView};
+pub use reading::record_of;
 pub use writer::{Added, BlockWriter};
-
-#[cfg(test)]
-mod tests;

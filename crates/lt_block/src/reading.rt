@@ -1,52 +1,16 @@
 ghost use Rattle.std.specs.Prelude.{◌≡◌, ◌+◌, ◌≤◌, [], length, IfOk, IfErr};
-ghost use Rattle.std.specs.Int.{w32, w64};
 ghost use Rattle.lt_rec.specs.Record.{stored_len};
-ghost use Rattle.lt_block.specs.Reading.{Gives, Reads, Fails, block_at, IsRead, number_at, bytes_at, body_len_at, seq_at, is_key_len, may_follow, key_len_at, record_at, records_at, count_at, placed, places_at};
+ghost use Rattle.lt_rec.specs.Reading.{Fails, Gives, Reads};
+ghost use Rattle.lt_block.specs.Reading.{block_at, IsRead, body_len_at, seq_at, is_key_len, may_follow, key_len_at, record_at, records_at, count_at, placed, places_at};
 
-use crate::fault::{BlockError, Fault};
-use crate::view::RecView;
-use lt_rec::Rec;
+use lt_rec::{
+    Fault, FormatError, LONGEST_BLOCK, NUMBERS_END, Rec, RecView, bytes_of, u32_at, u64_at,
+};
 use std::alloc::Global;
 use std::cmp::Ordering;
 
-/// The most bytes of a block.
-pub const LONGEST_BLOCK: usize = 65_536;
 /// The fewest bytes of a record.
-const SHORTEST_RECORD: usize = 28;
-
-/// A number of four bytes, the highest first, and the bytes after it. Takes no memory.
-pub fn u32_at(at: u64, bytes: &[u8]) -> Result<(u32, &[u8]), Fault>
-    ensures exact { Reads (λ x. (x.0, x.1.now)) result (number_at w32 at bytes.now) }
-    ensures len { IfOk result (λ x. length x.1.now + 4 ≡ length bytes.now) }
-{
-    match bytes.split_first_chunk::<4>() {
-        Some((number, rest)) => Ok((u32::from_be_bytes(*number), rest)),
-        None => Err(Fault { at }),
-    }
-}
-
-/// A number of eight bytes, the highest first, and the bytes after it. Takes no memory.
-pub fn u64_at(at: u64, bytes: &[u8]) -> Result<(u64, &[u8]), Fault>
-    ensures exact { Reads (λ x. (x.0, x.1.now)) result (number_at w64 at bytes.now) }
-    ensures len { IfOk result (λ x. length x.1.now + 8 ≡ length bytes.now) }
-{
-    match bytes.split_first_chunk::<8>() {
-        Some((number, rest)) => Ok((u64::from_be_bytes(*number), rest)),
-        None => Err(Fault { at }),
-    }
-}
-
-/// So many bytes, and those after them. Takes no memory.
-pub fn bytes_of(n: usize, at: u64, bytes: &[u8]) -> Result<(&[u8], &[u8]), Fault>
-    ensures exact { Reads (λ x. (x.0.now, x.1.now)) result (bytes_at n at bytes.now) }
-    ensures front_len { IfOk result (λ x. length x.0.now ≡ n) }
-    ensures len { IfOk result (λ x. length x.1.now + n ≡ length bytes.now) }
-{
-    match bytes.split_at_checked(n) {
-        Some((front, rest)) => Ok((front, rest)),
-        None => Err(Fault { at }),
-    }
-}
+const SHORTEST_RECORD: usize = Rec::HEADER + Rec::SHORTEST_KEY;
 
 #[tactic(auto, unfolding(crate::specs::Reading::body_len_at))]
 fn body_len_of(at: u64, bytes: &[u8]) -> Result<(u32, &[u8]), Fault>
@@ -67,7 +31,7 @@ fn seq_of(at: u64, bytes: &[u8]) -> Result<(u64, &[u8]), Fault>
     ensures len { IfOk result (λ x. length x.1.now + 8 ≡ length bytes.now) }
 {
     let (number, rest) = u64_at(at, bytes)?;
-    if number >= Rec::SEQ_END {
+    if number >= NUMBERS_END {
         return Err(Fault { at });
     }
     Ok((number, rest))
@@ -105,7 +69,7 @@ fn follows(last: &[u8], key_len: usize, bytes: &[u8]) -> bool
     last.cmp(key) == Ordering::Less
 }
 
-/// The record that the bytes begin with, at offset `at` of its block, and the bytes after it.
+/// The record that the bytes begin with, at offset `at` of its block, and the bytes after it. Takes no memory.
 #[tactic(auto, unfolding(crate::specs::Reading::record_at))]
 pub fn record_of<'a>(
     at: u64,
@@ -118,11 +82,12 @@ pub fn record_of<'a>(
 {
     let (key_len, rest) = key_len_of(at, last, bytes)?;
     let (body_len, rest) = body_len_of(at + 4, rest)?;
-    let (seq, rest) = seq_of(at + 8, rest)?;
-    let (ver, rest) = u32_at(at + 16, rest)?;
-    let (key, rest) = bytes_of(key_len as usize, at + 20, rest)?;
-    let (body, rest) = bytes_of(body_len as usize, at + 20 + key_len as u64, rest)?;
-    Ok((RecView::from_parts(key, seq, ver, body), rest))
+    let (_seq, rest) = seq_of(at + 8, rest)?;
+    let (_ver, rest) = u32_at(at + 16, rest)?;
+    let (_key, rest) = bytes_of(key_len as usize, at + 20, rest)?;
+    let (_body, rest) = bytes_of(body_len as usize, at + 20 + key_len as u64, rest)?;
+    let (stored, _) = bytes.split_at(bytes.len() - rest.len());
+    Ok((RecView::new(stored), rest))
 }
 
 /// The offsets of so many records that lie from offset 4 on, and the bytes after them.
@@ -130,7 +95,7 @@ fn offsets_of<'a>(
     alloc: Global,
     count: u32,
     bytes: &'a [u8],
-) -> Result<(Vec<u32>, &'a [u8]), BlockError>
+) -> Result<(Vec<u32>, &'a [u8]), FormatError>
     requires { length bytes.now ≤ 65532 }
     ensures exact { Gives (λ x. (x.0.items, x.1.now)) result (placed 4 (records_at count 4 [] bytes.now)) }
     ensures within { IfOk result (λ x. length x.1.now ≤ length bytes.now) }
@@ -163,18 +128,18 @@ fn count_of(bytes: &[u8]) -> Result<(u32, &[u8]), Fault>
 }
 
 /// The offsets of a block's records.
-pub fn places_of(alloc: Global, bytes: &[u8]) -> Result<Vec<u32>, BlockError>
+pub fn places_of(alloc: Global, bytes: &[u8]) -> Result<Vec<u32>, FormatError>
     ensures { Gives (λ v. v.items) result (places_at bytes.now) }
 {
     if bytes.len() > LONGEST_BLOCK {
-        return Err(BlockError::Bad {
+        return Err(FormatError::Bad {
             at: LONGEST_BLOCK as u64,
         });
     }
     let (count, rest) = count_of(bytes)?;
     let (offsets, left) = offsets_of(alloc, count, rest)?;
     if !left.is_empty() {
-        return Err(BlockError::Bad {
+        return Err(FormatError::Bad {
             at: (bytes.len() - left.len()) as u64,
         });
     }
@@ -182,7 +147,7 @@ pub fn places_of(alloc: Global, bytes: &[u8]) -> Result<Vec<u32>, BlockError>
 }
 
 /// The table of a block's records, by their offsets.
-pub fn table_of(alloc: Global, bytes: &[u8]) -> Result<Vec<u32>, BlockError>
+pub fn table_of(alloc: Global, bytes: &[u8]) -> Result<Vec<u32>, FormatError>
     ensures read { IfOk result (λ v. IsRead bytes.now v.items) }
     ensures fault { IfErr result (λ e. Fails e (block_at bytes.now)) }
 {

@@ -6,10 +6,8 @@ ghost use Rattle.lt_rec.specs.Boxes.{is_below};
 ghost use Rattle.lt_block.specs.Reading.{records_in, IsRead};
 ghost use Rattle.lt_block.specs.Below.{below_at};
 
-use crate::reading::record_of;
-use crate::view::RecView;
 use bytes::Bytes;
-use lt_rec::Cut;
+use lt_rec::{Cut, RecView};
 
 pub fn offset_in(offsets: &[u32], i: u64) -> usize
     requires { i < length offsets.now }
@@ -25,10 +23,7 @@ pub fn record_in<'a>(bytes: &'a Bytes, offsets: &Vec<u32>, i: u64) -> RecView<'a
     ensures lawful { IsRecord result }
 {
     let (_, rest) = bytes.as_slice().split_at(offset_in(offsets.as_slice(), i));
-    match record_of(0, &[], rest) {
-        Ok((rec, _)) => rec,
-        Err(_) => unreachable!(),
-    }
+    RecView::first_in(rest)
 }
 
 /// The number of records below a cut. The keys rise, so these are the first ones.

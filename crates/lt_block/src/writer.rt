@@ -1,11 +1,12 @@
 ghost use Rattle.std.specs.Prelude.{◌≡◌, ◌≢◌, ◌↔◌, ◌<◌, ◌≤◌, [], ◌∷◌, ◌++◌, true, Ok, length, drop, OnOk, OnErr};
 ghost use Rattle.std.specs.Int.{w32, to_be_bytes};
 ghost use Rattle.lt_rec.specs.Bytes.{is_less};
-ghost use Rattle.lt_block.specs.Spelling.{IsBlock, last_key, spelled, spelling};
+ghost use Rattle.lt_rec.specs.Record.{spelled};
+ghost use Rattle.lt_block.specs.Spelling.{IsBlock, last_key, spelling};
 ghost use Rattle.lt_block.specs.Reading.{block_at};
 
-use crate::reading::LONGEST_BLOCK;
-use lt_rec::{NoMemory, Octets, Rec};
+use byteorder::{BigEndian, ByteOrder};
+use lt_rec::{LONGEST_BLOCK, NoMemory, Octets, Rec};
 use std::alloc::Global;
 use std::marker::Model;
 
@@ -102,21 +103,7 @@ fn put(bytes: &mut Vec<u8>, rec: &Rec) -> Result<(), NoMemory>
     if bytes.as_slice().is_empty() {
         bytes.extend_from_slice(&[0, 0, 0, 0])?;
     }
-    append(bytes, rec)
-}
-
-// Room for all of it comes first, so that a refusal leaves the bytes as they were.
-fn append(bytes: &mut Vec<u8>, rec: &Rec) -> Result<(), NoMemory>
-    ensures ok { OnOk result (bytes.new.items ≡ bytes.old.items ++ spelled rec.now) }
-    ensures err { OnErr result (bytes.new.items ≡ bytes.old.items) }
-{
-    bytes.reserve(rec.stored_len())?;
-    bytes.extend_from_slice(&(rec.key().len() as u32).to_be_bytes())?;
-    bytes.extend_from_slice(&(rec.body().len() as u32).to_be_bytes())?;
-    bytes.extend_from_slice(&rec.seq().to_be_bytes())?;
-    bytes.extend_from_slice(&rec.ver().to_be_bytes())?;
-    bytes.extend_from_slice(rec.key())?;
-    bytes.extend_from_slice(rec.body())?;
+    bytes.extend_from_slice(rec.stored())?;
     Ok(())
 }
 
@@ -124,6 +111,5 @@ fn set_count(bytes: &mut [u8], count: u32)
     requires { 4 ≤ length bytes.old }
     ensures { bytes.new ≡ to_be_bytes w32 count ++ drop 4 bytes.old }
 {
-    let (front, _) = bytes.split_at_mut(4);
-    front.copy_from_slice(&count.to_be_bytes());
+    BigEndian::write_u32(bytes, count);
 }

@@ -9,6 +9,3 @@ mod hash;
 
 pub use filter::Filter;
 pub use hash::stem_hash;
-
-#[cfg(test)]
-mod tests;

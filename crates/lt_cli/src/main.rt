@@ -1,34 +1,27 @@
 //! The program: the real ends, the words of the command line, and the status as an exit code.
 #![tactic(auto)]
 
-ghost use Rattle.std.specs.Prelude.{◌≡◌, ◌<◌, vec_len};
-
-use lt_io::{FixedClock, MemSink, MemSource, ReaderSource, WriterSink};
-use lt_memdev::{MemDevice, MemDir};
-use lt_rec::{NoMemory, Octets};
-use lt_serve::{Status, run};
-use std::alloc::Global;
+use lt_filedev::{FileDevice, FileDir, OpenError};
+use lt_io::{FixedClock, ReaderSource, WriterSink};
+use lt_serve::{Status, creation_of, is_run, run};
 use std::process::ExitCode;
 use std::time::SystemTime;
 use std::{env, io};
 
 const HELP: &str = "vashmoon: a log-free, time-clustered table store
 
-usage: vashmoon create DIR SCHEMA [TTL]   makes an empty table
-       vashmoon run DIR --leave           answers the lines of standard input
+usage: vashmoon create DIR SCHEMA [TTL]   makes an empty table in the folder DIR
+       vashmoon run DIR --leave           answers the lines of standard input over the table in DIR
        vashmoon --help                    prints this
        vashmoon --version                 prints the version
 
+SCHEMA is the text of a schema, in JSON. What failed of the folder is told on standard error.
+
 Exit status: 0 done, 2 wrong words, 3 the input failed, 4 the output failed, 5 the input is too long,
-7 there is a table already, 8 there is no table, 9 the table's descriptor is refused, 10 the device failed,
-11 no memory, 12 the text says no schema, 13 no file number is left, 14 a line that isn't built yet.";
+7 there is a table already, 8 there is no table, 9 the table's descriptor is refused, 10 the folder failed or is in
+use, 11 no memory, 12 the text says no schema, 13 no file number is left, 14 a line that isn't built yet.";
 
 const VERSION: &str = "vashmoon 0.1.0";
-
-/// The schema of the table that the program serves: a net's name, a device and a time, which are the key, and a number of
-/// bytes.
-const SCHEMA: &str =
-    r#"{"columns":[{"name":"net","kind":"text"},{"name":"dev","kind":"int32"},{"name":"ts","kind":"time"},{"name":"bytes","kind":"int64","default":0}],"key":3}"#;
 
 /// The greatest moment, in microseconds since the Unix epoch.
 const LATEST: u64 = (1 << 62) - 1;
@@ -53,42 +46,23 @@ fn clock(rt: &HostRuntime) -> io::Result<FixedClock> {
     })
 }
 
-fn no_memory(_refused: NoMemory) -> io::Error {
-    io::Error::from(io::ErrorKind::OutOfMemory)
+// The directory that the words name, made for a table that is to be made. Wrong words have none.
+fn open(rt: &HostRuntime, given: &[String]) -> Result<FileDir, OpenError> {
+    match given {
+        [_, folder, ..] if is_run(given) => FileDir::open(rt, folder.as_str()),
+        [_, folder, ..] if creation_of(given).is_some() => FileDir::make(rt, folder.as_str()),
+        _ => Ok(FileDir::absent(rt.alloc(), "")?),
+    }
 }
 
-// A directory in memory with an empty table. On a device that never fails, memory alone can be wanting.
-fn table(
-    alloc: Global,
-    devices: &mut Vec<MemDevice>,
-    clock: &FixedClock,
-) -> Result<MemDir, NoMemory>
-    requires { 0 < vec_len devices.old }
-    ensures { vec_len devices.new ≡ vec_len devices.old }
-{
-    let mut words = Vec::new(alloc);
-    for word in ["create", ".", SCHEMA] {
-        words.push(String::from_str(alloc, word)?)?;
-    }
-    let mut source = MemSource::new(alloc, Octets::from_slice(alloc, b"")?, &[])?;
-    let mut sink = MemSink::new(alloc, &[])?;
-    let dir = MemDir::new(alloc)?;
-    let (status, dir) = run(alloc, &words, &mut source, &mut sink, dir, devices, clock);
-    if status == Status::Done {
-        return Ok(dir);
-    }
-    Err(NoMemory)
-}
-
-// Does what the words ask for, over a table in memory.
-fn serve(rt: &HostRuntime, given: &[String]) -> io::Result<ExitCode> {
+// Does what the words ask for in that directory, and tells the first trouble with it.
+fn serve(rt: &HostRuntime, given: &[String], dir: FileDir) -> io::Result<ExitCode> {
     let clock = clock(rt)?;
     let mut devices = Vec::new(rt.alloc());
-    devices.push(MemDevice::new(rt.alloc(), &[]).map_err(no_memory)?)?;
-    let dir = table(rt.alloc(), &mut devices, &clock).map_err(no_memory)?;
+    devices.push(FileDevice::new(rt, &dir)?)?;
     let mut source = ReaderSource::new(rt.stdin());
     let mut sink = WriterSink::new(rt.stdout());
-    let (status, _) = run(
+    let (status, _dir) = run(
         rt.alloc(),
         given,
         &mut source,
@@ -97,7 +71,21 @@ fn serve(rt: &HostRuntime, given: &[String]) -> io::Result<ExitCode> {
         &mut devices,
         &clock,
     );
+    if let Some(trouble) = devices[0].first_trouble() {
+        eprintln!(rt; "vashmoon: {trouble}")?;
+    }
     Ok(ExitCode::from(status.code()))
+}
+
+// Opens the folder and serves; a folder that is not opened is a device that failed.
+fn begin(rt: &HostRuntime, given: &[String]) -> io::Result<ExitCode> {
+    match open(rt, given) {
+        Ok(dir) => serve(rt, given, dir),
+        Err(refused) => {
+            eprintln!(rt; "vashmoon: {refused}")?;
+            Ok(ExitCode::from(Status::DeviceFault.code()))
+        }
+    }
 }
 
 fn main(rt: HostRuntime) -> io::Result<ExitCode> {
@@ -105,7 +93,7 @@ fn main(rt: HostRuntime) -> io::Result<ExitCode> {
     match words.as_slice() {
         [word] if word.as_str() == "--help" => println!(rt; "{HELP}")?,
         [word] if word.as_str() == "--version" => println!(rt; "{VERSION}")?,
-        given => return serve(&rt, given),
+        given => return begin(&rt, given),
     }
     Ok(ExitCode::SUCCESS)
 }

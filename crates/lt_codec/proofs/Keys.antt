@@ -27,7 +27,8 @@ use Rattle.lt_schema.specs.Orders.{key_cmp_total}
 use Rattle.lt_schema.proofs.Growing.{both_true, lawful_from, narrow_where_named, narrow_at_most, none_is, is_schema-changed, is_schema-at, are_admitted-take}
 use Rattle.lt_codec.specs.Spelling.{in_key, turned, spelled_by, key_columns, key_bytes}
 use Rattle.lt_codec.specs.Ordering.{fits_word, IsRowOf, lies_below}
-use Rattle.lt_codec.proofs.Bytes.{IsByBytes, numbers, turned_fits, turned_cmp, moments_cmp, texts}
+use Rattle.lt_rec.proofs.NumberOrder.{IsByBytes, numbers}
+use Rattle.lt_codec.proofs.Bytes.{turned_fits, turned_cmp, moments_cmp, texts}
 
 -- ---- kinds without their widths
 

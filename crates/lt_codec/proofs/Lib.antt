@@ -5,3 +5,4 @@ pub mod Steps
 mod Round
 mod Sole
 mod Texts
+mod Zeros

@@ -1,6 +1,7 @@
 -- What is spelled is read.
 use Rattle.std.proofs.Common.{◌≡◌, ℕ, zero, suc, ◌+◌, ◌-◌, ◌^◌, ◌<◌, ◌≤◌, ℤ, pos, negsuc, Bool, true, false, cond, eqb, List, [], ◌∷◌, ◌++◌, length, take, drop, refl, sym, ap, ◌∙◌, arith, append_assoc, append-nil}
-use Rattle.std.specs.Prelude.{T, IsTrue, nat_lt, Option, Some, None, option_map, option_and_then, Result, Ok}
+use Rattle.std.specs.Prelude.{T, IsTrue, nat_lt, Option, Some, None, option_map, option_and_then, Result, Ok, Err}
+use Rattle.std.specs.Result.{result_ok}
 use Rattle.std.specs.List.{list_all}
 use Rattle.std.specs.Int.{w32, w64, to_be_bytes, from_be_bytes, cast_signed, cast_unsigned}
 use Rattle.std.specs.Str.{is_utf8}
@@ -21,23 +22,28 @@ use Rattle.lt_schema.specs.Check.{Passes, wrong_kind_from, len_under}
 use Rattle.lt_schema.proofs.Growing.{both_true}
 use Rattle.lt_codec.specs.Spelling.{turned, escaped, in_key, in_body, spelled_by, key_columns, body_columns, key_bytes, body_bytes}
 use Rattle.lt_codec.specs.Ordering.{is_word, fits_word, is_text}
-use Rattle.lt_codec.specs.Reading.{◌>>=◌, number_at, bytes_at, counted_at, behind, unescaped, turned_back, number_as, text_as, bytes_as, if_of_kind, any_in_key, in_key_at, any_in_body, in_body_at, values_at, ended, all_at, behind_values, row_at}
+use Rattle.lt_rec.specs.Reading.{◌>>=◌, ended}
+use Rattle.lt_codec.specs.Reading.{number_of, bytes_of, counted_at, behind, unescaped, turned_back, number_as, text_as, bytes_as, if_of_kind, any_in_key, in_key_at, any_in_body, in_body_at, values_at, all_at, behind_values, row_at}
 use Rattle.lt_codec.proofs.Bytes.{turned_fits}
 use Rattle.lt_codec.proofs.Keys.{passes_parts}
 use Rattle.lt_codec.proofs.Lengths.{small, spelled_front}
 
 -- ---- numbers
 
-number_by : {A : Type 0} (b : Bool) (x : A) → b ≡ false → cond b None (Some x) ≡ Some x
+-- what a field of so many bytes gives
+abbrev given : {A : Type 0} → Bool → A → Result A ℕ
+given short x = cond short (Err 0) (Ok x)
+
+number_by : {A : Type 0} (b : Bool) (x : A) → b ≡ false → result_ok (given b x) ≡ Some x
 number_by true x is = absurd (cc)
 number_by false x is = refl
 
-number_8 : (n : ℕ) (rest : List ℕ) → n < 2 ^ 64 → number_at w64 (to_be_bytes w64 n ++ rest) ≡ Some (n, rest)
+number_8 : (n : ℕ) (rest : List ℕ) → n < 2 ^ 64 → number_of w64 (to_be_bytes w64 n ++ rest) ≡ Some (n, rest)
 number_8 n rest fits =
     let long : nat_lt (length (to_be_bytes w64 n ++ rest)) 8 ≡ false = rw (length-append (to_be_bytes w64 n) rest) (grind (arith, nat_tests)) in
     number_by (nat_lt (length (to_be_bytes w64 n ++ rest)) 8) (from_be_bytes w64 (to_be_bytes w64 n), rest) long ∙ ap (λ (m : ℕ). Some (m, rest)) (from_be_bytes-to_be_bytes_8 n fits)
 
-number_4 : (n : ℕ) (rest : List ℕ) → n < 2 ^ 32 → number_at w32 (to_be_bytes w32 n ++ rest) ≡ Some (n, rest)
+number_4 : (n : ℕ) (rest : List ℕ) → n < 2 ^ 32 → number_of w32 (to_be_bytes w32 n ++ rest) ≡ Some (n, rest)
 number_4 n rest fits =
     let long : nat_lt (length (to_be_bytes w32 n ++ rest)) 4 ≡ false = rw (length-append (to_be_bytes w32 n) rest) (grind (arith, nat_tests)) in
     number_by (nat_lt (length (to_be_bytes w32 n ++ rest)) 4) (from_be_bytes w32 (to_be_bytes w32 n), rest) long ∙ ap (λ (m : ℕ). Some (m, rest)) (from_be_bytes-to_be_bytes_4 n fits)
@@ -111,7 +117,7 @@ dropped : (s rest : List ℕ) → drop (length s) (s ++ rest) ≡ rest
 dropped [] rest = refl
 dropped (b ∷ s) rest = dropped s rest
 
-bytes_are : (s rest : List ℕ) → bytes_at (length s) (s ++ rest) ≡ Some (s, rest)
+bytes_are : (s rest : List ℕ) → bytes_of (length s) (s ++ rest) ≡ Some (s, rest)
 bytes_are s rest =
     let long : nat_lt (length (s ++ rest)) (length s) ≡ false = rw (length-append s rest) (grind (arith, nat_tests)) in
     number_by (nat_lt (length (s ++ rest)) (length s)) (take (length s) (s ++ rest), drop (length s) (s ++ rest)) long
@@ -120,7 +126,7 @@ bytes_are s rest =
 counted : (s rest : List ℕ) → length s < 2 ^ 32 → counted_at ((to_be_bytes w32 (length s) ++ s) ++ rest) ≡ Some (s, rest)
 unfolding counted_at
 counted s rest fits =
-    ap counted_at (append_assoc (to_be_bytes w32 (length s)) s rest) ∙ ap (option_and_then (λ n. bytes_at n.0 n.1)) (number_4 (length s) (s ++ rest) fits) ∙ bytes_are s rest
+    ap counted_at (append_assoc (to_be_bytes w32 (length s)) s rest) ∙ ap (option_and_then (λ n. bytes_of n.0 n.1)) (number_4 (length s) (s ++ rest) fits) ∙ bytes_are s rest
 
 test_holds : (b : Bool) → IsTrue b → T b
 test_holds true is = tt

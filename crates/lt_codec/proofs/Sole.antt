@@ -2,6 +2,7 @@
 use Rattle.std.proofs.Common.{◌≡◌, ℕ, suc, ◌+◌, ◌-◌, ◌^◌, ◌<◌, ◌≤◌, ℤ, pos, negsuc, Bool, true, false, cond, eqb, ◌&&◌, List, [], ◌∷◌, ◌++◌, length, get_or, take, drop, refl, sym, ap, subst, ◌∙◌, arith, append_assoc, append-nil, inl, inr}
 use Rattle.std.specs.Prelude.{IsTrue, nat_lt, Option, Some, None, option_map, option_and_then, Result, Ok, Err, All}
 use Rattle.std.specs.List.{list_all}
+use Rattle.std.specs.Result.{result_ok}
 use Rattle.std.specs.Int.{Width, w32, w64, to_be_bytes, from_be_bytes, cast_signed, cast_unsigned}
 use Rattle.std.specs.Str.{is_utf8}
 use Rattle.std.proofs.lemmas.Nat.{be_bytes_4, be_bytes_8}
@@ -21,7 +22,8 @@ use Rattle.lt_schema.specs.Check.{wrong_kind_from}
 use Rattle.lt_schema.proofs.Growing.{both_true, lawful_from}
 use Rattle.lt_codec.specs.Spelling.{turned, escaped, in_key, in_body, spelled_by, key_columns, body_columns}
 use Rattle.lt_codec.specs.Ordering.{IsSpelling, is_word, fits_word, is_text}
-use Rattle.lt_codec.specs.Reading.{◌>>=◌, number_at, bytes_at, counted_at, behind, unescaped, turned_back, number_as, text_as, bytes_as, if_of_kind, any_in_key, in_key_at, any_in_body, in_body_at, or_fault, values_at, ended, all_at, behind_values, row_at}
+use Rattle.lt_rec.specs.Reading.{◌>>=◌, or_fault, ended}
+use Rattle.lt_codec.specs.Reading.{number_of, bytes_of, counted_at, behind, unescaped, turned_back, number_as, text_as, bytes_as, if_of_kind, any_in_key, in_key_at, any_in_body, in_body_at, values_at, all_at, behind_values, row_at}
 
 abbrev pub AreBytes : List ℕ → Type 0
 AreBytes = All (λ b. b < 2 ^ 8)
@@ -43,7 +45,11 @@ bind_gave : {A B : Type 0} (r : Result A ℕ) (f : A → Result B ℕ) (y : B) �
 bind_gave (Ok x) f y e = (x, refl, e)
 bind_gave (Err at) f y e = absurd cc
 
-unless_gave : {A : Type 0} (b : Bool) (x y : A) → cond b None (Some x) ≡ Some y → (b ≡ false) × (x ≡ y)
+-- what a field of so many bytes gives
+abbrev given : {A : Type 0} → Bool → A → Result A ℕ
+given short x = cond short (Err 0) (Ok x)
+
+unless_gave : {A : Type 0} (b : Bool) (x y : A) → result_ok (given b x) ≡ Some y → (b ≡ false) × (x ≡ y)
 unless_gave true x y e = absurd cc
 unless_gave false x y e = (refl, some_is x y e)
 
@@ -75,7 +81,7 @@ record Took (w : Width) (limit : ℕ) (bytes : List ℕ) (x : ℕ × List ℕ) :
   rest : AreBytes x.1
   below : x.0 < limit
 
-took_8 : (bytes : List ℕ) (x : ℕ × List ℕ) → AreBytes bytes → number_at w64 bytes ≡ Some x → Took w64 (2 ^ 64) bytes x
+took_8 : (bytes : List ℕ) (x : ℕ × List ℕ) → AreBytes bytes → number_of w64 bytes ≡ Some x → Took w64 (2 ^ 64) bytes x
 took_8 bytes x are e =
     let g = unless_gave (nat_lt (length bytes) 8) (from_be_bytes w64 (take 8 bytes), drop 8 bytes) x e in
     let long : 8 ≤ length bytes = ltb-false _ _ g.0 in
@@ -88,7 +94,7 @@ took_8 bytes x are e =
       below = omega (arith, fits 0, fits 1, fits 2, fits 3, fits 4, fits 5, fits 6, fits 7);
     })
 
-took_4 : (bytes : List ℕ) (x : ℕ × List ℕ) → AreBytes bytes → number_at w32 bytes ≡ Some x → Took w32 (2 ^ 32) bytes x
+took_4 : (bytes : List ℕ) (x : ℕ × List ℕ) → AreBytes bytes → number_of w32 bytes ≡ Some x → Took w32 (2 ^ 32) bytes x
 took_4 bytes x are e =
     let g = unless_gave (nat_lt (length bytes) 4) (from_be_bytes w32 (take 4 bytes), drop 4 bytes) x e in
     let long : 4 ≤ length bytes = ltb-false _ _ g.0 in
@@ -170,7 +176,7 @@ record Counted (bytes : List ℕ) (x : List ℕ × List ℕ) : Type 0 where
   parts : bytes ≡ (to_be_bytes w32 (length x.0) ++ x.0) ++ x.1
   rest : AreBytes x.1
 
-taken_by : (n : ℕ) (bytes : List ℕ) (x : List ℕ × List ℕ) → AreBytes bytes → bytes_at n bytes ≡ Some x → (bytes ≡ x.0 ++ x.1) × (length x.0 ≡ n) × AreBytes x.1
+taken_by : (n : ℕ) (bytes : List ℕ) (x : List ℕ × List ℕ) → AreBytes bytes → bytes_of n bytes ≡ Some x → (bytes ≡ x.0 ++ x.1) × (length x.0 ≡ n) × AreBytes x.1
 taken_by n bytes x are e =
     let g = unless_gave (nat_lt (length bytes) n) (take n bytes, drop n bytes) x e in
     let long : n ≤ length bytes = ltb-false _ _ g.0 in
@@ -180,7 +186,7 @@ taken_by n bytes x are e =
 counted : (bytes : List ℕ) (x : List ℕ × List ℕ) → AreBytes bytes → counted_at bytes ≡ Some x → Counted bytes x
 unfolding counted_at
 counted bytes x are e =
-    let g = then_gave (λ n. bytes_at n.0 n.1) (number_at w32 bytes) x e in
+    let g = then_gave (λ n. bytes_of n.0 n.1) (number_of w32 bytes) x e in
     let n = g.0 in
     let took = took_4 bytes n are g.1 in
     let t = taken_by n.0 n.1 x took.rest g.2 in
@@ -222,9 +228,9 @@ narrow_word (negsuc m) is = grind (arith, nat_tests)
 text_gave : (x : List ℕ × List ℕ) (y : Value × List ℕ) → text_as x ≡ Some y → IsTrue (is_utf8 x.0) × ((Text x.0, x.1) ≡ y)
 text_gave x y e = if_gave (is_utf8 x.0) (Text x.0, x.1) y e
 
-key_number_read : (kind : Kind) (bytes : List ℕ) (y : Value × List ℕ) → ((z : ℤ) → in_key kind (Int z) ≡ to_be_bytes w64 (turned z)) → AreBytes bytes → option_map (number_as turned_back) (number_at w64 bytes) ≡ Some y → Read in_key kind bytes y
+key_number_read : (kind : Kind) (bytes : List ℕ) (y : Value × List ℕ) → ((z : ℤ) → in_key kind (Int z) ≡ to_be_bytes w64 (turned z)) → AreBytes bytes → option_map (number_as turned_back) (number_of w64 bytes) ≡ Some y → Read in_key kind bytes y
 key_number_read kind bytes y form are e =
-    let m = map_gave (number_as turned_back) (number_at w64 bytes) y e in
+    let m = map_gave (number_as turned_back) (number_of w64 bytes) y e in
     let n = m.0 in
     let took = took_8 bytes n are m.1 in
     let t = turns n.0 took.below in
@@ -240,7 +246,7 @@ unfolding in_key
 any_key_read Int32 bytes y are e = key_number_read Int32 bytes y (λ z. refl) are e
 any_key_read Int64 bytes y are e = key_number_read Int64 bytes y (λ z. refl) are e
 any_key_read Time bytes y are e =
-    let m = map_gave (number_as (cast_signed w64)) (number_at w64 bytes) y e in
+    let m = map_gave (number_as (cast_signed w64)) (number_of w64 bytes) y e in
     let n = m.0 in
     let took = took_8 bytes n are m.1 in
     subst (Read in_key Time bytes) m.2 (record {
@@ -265,9 +271,9 @@ word_is n below = elim (cases_lt n (2 ^ 63)) [
   | inr le ↦ let more : nat_lt n (2 ^ 63) ≡ false = grind (arith, nat_tests) in rw more (grind (arith, nat_tests))
 ]
 
-body_word_read : (kind : Kind) (bytes : List ℕ) (y : Value × List ℕ) → ((z : ℤ) → in_body kind (Int z) ≡ to_be_bytes w64 (cast_unsigned w64 z)) → AreBytes bytes → option_map (number_as (cast_signed w64)) (number_at w64 bytes) ≡ Some y → Read in_body kind bytes y
+body_word_read : (kind : Kind) (bytes : List ℕ) (y : Value × List ℕ) → ((z : ℤ) → in_body kind (Int z) ≡ to_be_bytes w64 (cast_unsigned w64 z)) → AreBytes bytes → option_map (number_as (cast_signed w64)) (number_of w64 bytes) ≡ Some y → Read in_body kind bytes y
 body_word_read kind bytes y form are e =
-    let m = map_gave (number_as (cast_signed w64)) (number_at w64 bytes) y e in
+    let m = map_gave (number_as (cast_signed w64)) (number_of w64 bytes) y e in
     let n = m.0 in
     let took = took_8 bytes n are m.1 in
     subst (Read in_body kind bytes) m.2 (record {
@@ -280,7 +286,7 @@ body_word_read kind bytes y form are e =
 any_body_read : (kind : Kind) (bytes : List ℕ) (y : Value × List ℕ) → AreBytes bytes → any_in_body kind bytes ≡ Some y → Read in_body kind bytes y
 unfolding in_body
 any_body_read Int32 bytes y are e =
-    let m = map_gave (number_as (cast_signed w32)) (number_at w32 bytes) y e in
+    let m = map_gave (number_as (cast_signed w32)) (number_of w32 bytes) y e in
     let n = m.0 in
     let took = took_4 bytes n are m.1 in
     subst (Read in_body Int32 bytes) m.2 (record {

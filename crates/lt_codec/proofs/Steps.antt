@@ -10,7 +10,8 @@ use Rattle.lt_schema.specs.declared.value.Value.{Value}
 use Rattle.lt_schema.specs.Shapes.{ColumnShape}
 use Rattle.lt_codec.specs.declared.taking.Step.{Step}
 use Rattle.lt_codec.specs.declared.taking.Step.TheVariants.{Put, Wait, End, Fault}
-use Rattle.lt_codec.specs.Reading.{◌>>=◌, behind, step, unescaped, values_at, ended, all_at, behind_values}
+use Rattle.lt_rec.specs.Reading.{◌>>=◌, ended}
+use Rattle.lt_codec.specs.Reading.{behind, step, unescaped, values_at, all_at, behind_values}
 
 -- ---- escaped texts
 

@@ -12,8 +12,5 @@ pub use laws::{
     cuts_stand_with_their_values, keys_order_as_their_bytes, rows_are_read_back,
     rows_have_one_spelling,
 };
-pub use reading::row_of;
+pub use reading::{push_row, row_of};
 pub use writing::{cut_of, rec_of};
-
-#[cfg(test)]
-mod tests;

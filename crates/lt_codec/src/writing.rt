@@ -10,8 +10,9 @@ ghost use Rattle.lt_codec.specs.Spelling.{key_number, escaped, in_key, in_body, 
 ghost use Rattle.lt_codec.specs.Ordering.{is_word, fits_word, is_text, IsCauseOfBound};
 
 use crate::fault::BoundError;
-use lt_rec::{Cut, NoMemory, Octets, Rec};
+use lt_rec::{Cut, NoMemory, Octets, Rec, put_u32, put_u64};
 use lt_schema::{Column, Kind, Schema, Value, body_len_in_bytes, key_len_in_bytes};
+use memchr::memchr;
 use std::alloc::Global;
 
 /// The record of a row that passes. Its key and body are written into one piece of memory.
@@ -33,11 +34,11 @@ pub fn rec_of(
     let (key_values, body_values) = row.split_at(key_len);
     let body_len = body_len_in_bytes(body_columns, body_values);
     let len = key_len_in_bytes(key_values).saturating_add(body_len);
-    let mut bytes = Vec::with_capacity(alloc, len as usize)?;
+    let mut bytes = Rec::room(alloc, len as usize)?;
     put_key(&mut bytes, key_columns, key_values)?;
-    let key_end = bytes.as_slice().len();
+    let key_end = bytes.as_slice().len() - Rec::HEADER;
     put_body(&mut bytes, body_columns, body_values)?;
-    Ok(Rec::from_bytes(Octets::from_vec(bytes), key_end, seq, ver))
+    Ok(Rec::from_bytes(bytes, key_end, seq, ver))
 }
 
 /// The place of leading values among keys: before all keys that begin with them, or, with `after`, behind these.
@@ -108,8 +109,7 @@ fn put_number(out: &mut Vec<u8>, kind: Kind, number: i64) -> Result<(), NoMemory
     ensures ok { OnOk result (out.new.items ≡ out.old.items ++ in_key kind (Int number)) }
     ensures word { IsTrue (is_word number) }
 {
-    out.extend_from_slice(&key_number(kind, number).to_be_bytes())?;
-    Ok(())
+    put_u64(out, key_number(kind, number))
 }
 
 fn key_number(kind: Kind, number: i64) -> u64
@@ -124,6 +124,19 @@ fn key_number(kind: Kind, number: i64) -> u64
 }
 
 fn put_escaped(out: &mut Vec<u8>, bytes: &[u8]) -> Result<(), NoMemory>
+    ensures { OnOk result (out.new.items ≡ out.old.items ++ escaped bytes.now) }
+{
+    match memchr(0, bytes) {
+        Some(_) => put_each_escaped(out, bytes),
+        None => {
+            out.extend_from_slice(bytes)?;
+            out.extend_from_slice(&[0, 0])?;
+            Ok(())
+        }
+    }
+}
+
+fn put_each_escaped(out: &mut Vec<u8>, bytes: &[u8]) -> Result<(), NoMemory>
     ensures { OnOk result (out.new.items ≡ out.old.items ++ escaped bytes.now) }
 {
     for byte in bytes {
@@ -168,13 +181,9 @@ fn put_in_body(out: &mut Vec<u8>, kind: Kind, value: &Value) -> Result<(), NoMem
 {
     match value {
         Value::Int(number) if kind == Kind::Int32 => {
-            out.extend_from_slice(&(*number as i32).to_be_bytes())?;
-            Ok(())
+            put_u32(out, (*number as i32).cast_unsigned())
         }
-        Value::Int(number) => {
-            out.extend_from_slice(&number.to_be_bytes())?;
-            Ok(())
-        }
+        Value::Int(number) => put_u64(out, number.cast_unsigned()),
         Value::Text(text) => put_counted(out, text.as_slice()),
         Value::Blob(bytes) => put_counted(out, bytes.as_slice()),
     }
@@ -185,7 +194,7 @@ fn put_counted(out: &mut Vec<u8>, bytes: &[u8]) -> Result<(), NoMemory>
     requires { length bytes.now ≤ 60000 }
     ensures { OnOk result (out.new.items ≡ out.old.items ++ (to_be_bytes w32 (length bytes.now) ++ bytes.now)) }
 {
-    out.extend_from_slice(&(bytes.len() as u32).to_be_bytes())?;
+    put_u32(out, bytes.len() as u32)?;
     out.extend_from_slice(bytes)?;
     Ok(())
 }

@@ -41,17 +41,17 @@ none_is_some stone A e = cc
 
 -- ---- one possible stone
 
-pub anchored_none : (told : Bool) (directory : Directory) → (told ≡ true → directory.now.may ≡ None ∷ []) → (told ≡ true → Fits directory.seen directory.now) → IsAnchored told record { directory = directory; may = None ∷ [] }
-anchored_none told directory only fits = record {
+pub anchored_none : (honest : Bool) (directory : Directory) → (honest ≡ true → directory.now.may ≡ None ∷ []) → (honest ≡ true → Fits directory.seen directory.now) → IsAnchored honest record { directory = directory; may = None ∷ [] }
+anchored_none honest directory only fits = record {
   possible = only;
   seen = fits;
   readable = λ stone held. none_is_some stone _ (only_one None (Some stone) held);
   none = λ e. refl;
 }
 
-pub anchored_one : (told : Bool) (directory : Directory) (may : List (Option StoneShape)) (stone : StoneShape) → may ≡ Some stone ∷ [] → (told ≡ true → directory.now.may ≡ Some (spelling stone) ∷ []) → (told ≡ true → Fits directory.seen directory.now) → stone_at (spelling stone) ≡ Ok stone
-    → IsAnchored told record { directory = directory; may = may }
-anchored_one told directory may stone is only fits read = record {
+pub anchored_one : (honest : Bool) (directory : Directory) (may : List (Option StoneShape)) (stone : StoneShape) → may ≡ Some stone ∷ [] → (honest ≡ true → directory.now.may ≡ Some (spelling stone) ∷ []) → (honest ≡ true → Fits directory.seen directory.now) → stone_at (spelling stone) ≡ Ok stone
+    → IsAnchored honest record { directory = directory; may = may }
+anchored_one honest directory may stone is only fits read = record {
   possible = λ h. only h ∙ ap (map spelled) (sym is);
   seen = fits;
   readable = λ other held. same_stone stone other (only_one (Some stone) (Some other) (subst (λ l. Contains l (Some other)) is held)) read;
@@ -60,9 +60,9 @@ anchored_one told directory may stone is only fits read = record {
 
 -- ---- the number is lent
 
-pub anchored_lent : (told : Bool) (old new : Directory) (may : List (Option StoneShape)) (file : ℕ) → old.now.ceiling ≤ file → (told ≡ true → new ≡ lent old file)
-    → IsAnchored told record { directory = old; may = may } → IsAnchored told record { directory = new; may = may }
-anchored_lent told old new may file unlent e anchored = record {
+pub anchored_lent : (honest : Bool) (old new : Directory) (may : List (Option StoneShape)) (file : ℕ) → old.now.ceiling ≤ file → (honest ≡ true → new ≡ lent old file)
+    → IsAnchored honest record { directory = old; may = may } → IsAnchored honest record { directory = new; may = may }
+anchored_lent honest old new may file unlent e anchored = record {
   possible = λ h. ap (λ d. d.now.may) (e h) ∙ anchored.possible h;
   seen = λ h. subst (λ d. Fits d.seen d.now) (sym (e h)) (Fits-raised old.seen old.now (file + 1) (omega arith) (anchored.seen h));
   readable = anchored.readable;
@@ -80,10 +80,10 @@ pub steps_on : (number : ℕ) (bytes : List ℕ) (as_bytes : List ℕ) (old midd
 steps_on number bytes as_bytes old middle new unlent same e steps =
     Steps-join (Replaces number bytes) (replacing number bytes) old middle new (steps_lent number bytes old middle unlent e) (subst (λ b. Steps (Replaces number b) middle new) same steps)
 
-pub anchored_pointed : (told : Bool) (old middle new : Directory) (may joined : List (Option StoneShape)) (file : ℕ) (stone : StoneShape) (as_bytes : List ℕ) → joined ≡ may ++ Some stone ∷ []
-    → (told ≡ true → as_bytes ≡ spelling stone) → (told ≡ true → middle ≡ lent old file) → (told ≡ true → new.now ≡ pointed middle.now as_bytes) → (told ≡ true → Fits new.seen new.now) → stone_at (spelling stone) ≡ Ok stone
-    → IsAnchored told record { directory = old; may = may } → IsAnchored told record { directory = new; may = joined }
-anchored_pointed told old middle new may joined file stone as_bytes is same e points fits read anchored = record {
+pub anchored_pointed : (honest : Bool) (old middle new : Directory) (may joined : List (Option StoneShape)) (file : ℕ) (stone : StoneShape) (as_bytes : List ℕ) → joined ≡ may ++ Some stone ∷ []
+    → (honest ≡ true → as_bytes ≡ spelling stone) → (honest ≡ true → middle ≡ lent old file) → (honest ≡ true → new.now ≡ pointed middle.now as_bytes) → (honest ≡ true → Fits new.seen new.now) → stone_at (spelling stone) ≡ Ok stone
+    → IsAnchored honest record { directory = old; may = may } → IsAnchored honest record { directory = new; may = joined }
+anchored_pointed honest old middle new may joined file stone as_bytes is same e points fits read anchored = record {
   possible = λ h.
       let was : middle.now.may ≡ map spelled may = ap (λ d. d.now.may) (e h) ∙ anchored.possible h in
       ap (λ s. s.may) (points h) ∙ (λ i. was i ++ Some (same h i) ∷ []) ∙ sym (spelled-push may (Some stone)) ∙ ap (map spelled) (sym is);
@@ -100,9 +100,9 @@ steps_end R order old new steps =
     FromOn-steps R (R old.now) (λ before after more so_far. order.further old.now before after so_far more) (moment old) old new (omega arith) steps
     (FromOn-now (R old.now) old (order.itself old.now)) (moment new) new.now steps.later (get_seam new.past [] new.now)
 
-pub anchored_swept : (told : Bool) (old new : Directory) (may : List (Option StoneShape)) (goes : ℕ → Type 0) → (told ≡ true → Steps (Sweeps goes) old new) → (told ≡ true → Fits old.seen old.now → Fits new.seen new.now)
-    → IsAnchored told record { directory = old; may = may } → IsAnchored told record { directory = new; may = may }
-anchored_swept told old new may goes steps fits anchored = record {
+pub anchored_swept : (honest : Bool) (old new : Directory) (may : List (Option StoneShape)) (goes : ℕ → Type 0) → (honest ≡ true → Steps (Sweeps goes) old new) → (honest ≡ true → Fits old.seen old.now → Fits new.seen new.now)
+    → IsAnchored honest record { directory = old; may = may } → IsAnchored honest record { directory = new; may = may }
+anchored_swept honest old new may goes steps fits anchored = record {
   possible = λ h. let end : Sweeps goes old.now new.now = steps_end (Sweeps goes) (sweeping goes) old new (steps h) in end.may ∙ anchored.possible h;
   seen = λ h. fits h (anchored.seen h);
   readable = anchored.readable;

@@ -27,9 +27,9 @@ newest (older ∷ stone ∷ more) = newest (stone ∷ more)
 -- What holds of each anchor: where its device tells, the possible descriptors are those of its stones, and what a read
 -- gives is possible. Each stone is read back from its descriptor. 'No descriptor' joined last only where nothing else is
 -- possible.
-pub record IsAnchored (told : Bool) (anchor : Anchored) : Type 0 where
-  pub possible : told ≡ true → anchor.directory.now.may ≡ map spelled anchor.may
-  pub seen : told ≡ true → Fits anchor.directory.seen anchor.directory.now
+pub record IsAnchored (honest : Bool) (anchor : Anchored) : Type 0 where
+  pub possible : honest ≡ true → anchor.directory.now.may ≡ map spelled anchor.may
+  pub seen : honest ≡ true → Fits anchor.directory.seen anchor.directory.now
   pub readable : (stone : StoneShape) → Contains anchor.may (Some stone) → stone_at (spelling stone) ≡ Ok stone
   pub none : newest anchor.may ≡ None → anchor.may ≡ None ∷ []
 
@@ -66,12 +66,12 @@ is_spared may busy file = list_any (names_file file) may || list_any (λ number.
 
 -- The one possible stone is what the descriptor of the directory spells, and the next free file number is above each that
 -- the directory lent or the stone uses.
-pub record IsLoaded (told : Bool) (old : Directory) (anchor : Anchored) (next : ℕ) : Type 0 where
+pub record IsLoaded (honest : Bool) (old : Directory) (anchor : Anchored) (next : ℕ) : Type 0 where
   pub stone : StoneShape
   pub may : anchor.may ≡ Some stone ∷ []
   pub lawful : IsStone stone
-  pub exact : told ≡ true → option_map stone_at old.seen.descriptor ≡ Some (Ok stone)
+  pub exact : honest ≡ true → option_map stone_at old.seen.descriptor ≡ Some (Ok stone)
   pub free : anchor.directory.now.ceiling ≤ next
   pub above : stone.next_file ≤ next
   pub in_range : next ≤ 2 ^ 62
-  pub next_is : told ≡ true → next ≡ max anchor.directory.now.ceiling stone.next_file
+  pub next_is : honest ≡ true → next ≡ max anchor.directory.now.ceiling stone.next_file

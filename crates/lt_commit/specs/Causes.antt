@@ -1,8 +1,8 @@
 -- What an anchor's refusals say of those below.
 use Rattle.lt_io.specs.declared.device_error.DeviceError.{DeviceError}
 use Rattle.lt_io.specs.declared.device_error.DeviceError.TheVariants as device
-use Rattle.lt_desc.specs.declared.fault.DescError.{DescError}
-use Rattle.lt_desc.specs.declared.fault.DescError.TheVariants as desc
+use Rattle.lt_rec.specs.declared.fault.FormatError.{FormatError}
+use Rattle.lt_rec.specs.declared.fault.FormatError.TheVariants as format
 use Rattle.lt_commit.specs.declared.errors.FreshError.{FreshError}
 use Rattle.lt_commit.specs.declared.errors.FreshError.TheVariants as fresh
 use Rattle.lt_commit.specs.declared.errors.LoadError.{LoadError}
@@ -20,9 +20,9 @@ abbrev pub load_refusal : DeviceError → LoadError
 load_refusal device.Failed = load.Fault
 load_refusal device.NoMemory = load.NoMemory
 
-abbrev pub read_refusal : DescError → LoadError
-read_refusal (desc.Bad at) = load.Bad at
-read_refusal desc.NoMemory = load.NoMemory
+abbrev pub read_refusal : FormatError → LoadError
+read_refusal (format.Bad at) = load.Bad at
+read_refusal format.NoMemory = load.NoMemory
 
 abbrev pub commit_refusal : DeviceError → CommitError
 commit_refusal device.Failed = commit.Fault

@@ -21,12 +21,13 @@ fn empty_stone(
     schema: Schema,
     ttl: Option<u64>,
 ) -> Result<Stone, NoMemory>
-    requires life { IfSome ttl (λ t. (1 ≤ t) × (t < 2 ^ 62)) }
+    requires ttl { IfSome ttl (λ t. (1 ≤ t) × (t < 2 ^ 62)) }
     requires in_range { file < 2 ^ 62 }
     ensures empty { IfOk result (λ stone. IsEmpty schema ttl stone) }
     ensures next { IfOk result (λ stone. stone.next_file ≡ file + 1) }
 {
     let schemas = Schemas::of(alloc, schema)?;
+    // That the first is lawful is known once it is read.
     let _first = schemas.first();
     let tablets = Tablets::from_vec(Vec::new(alloc));
     Ok(Stone::new(0, 0, ttl, file + 1, schemas, tablets))
@@ -85,7 +86,7 @@ impl<V: Device> Anchor<V> {
         ttl: Option<u64>,
     ) -> Result<(), CreateError>
         requires unlent { self.old.directory.now.ceiling ≤ file }
-        requires life { IfSome ttl (λ t. (1 ≤ t) × (t < 2 ^ 62)) }
+        requires ttl { IfSome ttl (λ t. (1 ≤ t) × (t < 2 ^ 62)) }
         requires anchored { IsAnchored V.honest self.old }
         ensures empty { OnOk result (HoldsEmpty schema ttl self.new) }
         ensures spent { IsErrOf result CreateError.Spent → 2 ^ 62 ≤ file }

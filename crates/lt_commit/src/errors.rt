@@ -3,9 +3,8 @@ ghost use Rattle.lt_commit.specs.Causes.{fresh_refusal, load_refusal, read_refus
 ghost use Rattle.lt_commit.specs.declared.errors.CommitError.TheVariants as commit_errors;
 ghost use Rattle.lt_commit.specs.declared.errors.CreateError.TheVariants as create_errors;
 
-use lt_desc::DescError;
 use lt_io::{DeviceError, Failed};
-use lt_rec::NoMemory;
+use lt_rec::{FormatError, NoMemory};
 use std::alloc::AllocError;
 
 /// Why no table was begun in a directory.
@@ -78,13 +77,13 @@ impl From<DeviceError> for LoadError {
     }
 }
 
-impl From<DescError> for LoadError {
+impl From<FormatError> for LoadError {
     ghost from_gives = { λ refused e. e ≡ read_refusal refused };
 
-    fn from(refused: DescError) -> LoadError {
+    fn from(refused: FormatError) -> LoadError {
         match refused {
-            DescError::Bad { at } => LoadError::Bad { at },
-            DescError::NoMemory => LoadError::NoMemory,
+            FormatError::Bad { at } => LoadError::Bad { at },
+            FormatError::NoMemory => LoadError::NoMemory,
         }
     }
 }

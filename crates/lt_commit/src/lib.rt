@@ -10,6 +10,3 @@ mod sweeping;
 
 pub use anchor::Anchor;
 pub use errors::{CommitError, CreateError, FreshError, LoadError};
-
-#[cfg(test)]
-mod tests;

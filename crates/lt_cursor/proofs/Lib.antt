@@ -1,4 +1,4 @@
-mod Behind
+pub mod Behind
 mod Keys
 mod Leading
 mod Putting

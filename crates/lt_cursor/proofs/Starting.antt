@@ -57,40 +57,40 @@ kept_moved : (p : Record → Bool) (down : Bool) (xs : List Record) → IsPermut
 kept_moved p true xs = subst (λ ys. IsPermutation ys (filter p xs)) (sym (turned_kept p xs)) (IsPermutation-sym _ _ (IsPermutation-reverse (filter p xs)))
 kept_moved p false xs = IsPermutation-refl (filter p xs)
 
-module _ (area : RawBox) (down : Bool) where
-  tablets_moved : (tablets : List Loaded) → IsPermutation (joined (lefts_of_tablets area down tablets)) (filter (in_box area) (joined (map records_in tablets)))
+module _ (raw_box : RawBox) (down : Bool) where
+  tablets_moved : (tablets : List Loaded) → IsPermutation (joined (lefts_of_tablets raw_box down tablets)) (filter (in_box raw_box) (joined (map records_in tablets)))
   tablets_moved [] = IsPermutation-refl []
   tablets_moved (t ∷ tablets) =
-      subst (IsPermutation (filter (in_box area) (in_order down (records_in t)) ++ joined (lefts_of_tablets area down tablets))) (sym (filter-append (in_box area) (records_in t) (joined (map records_in tablets))))
-      (IsPermutation-append _ _ _ _ (kept_moved (in_box area) down (records_in t)) (tablets_moved tablets))
+      subst (IsPermutation (filter (in_box raw_box) (in_order down (records_in t)) ++ joined (lefts_of_tablets raw_box down tablets))) (sym (filter-append (in_box raw_box) (records_in t) (joined (map records_in tablets))))
+      (IsPermutation-append _ _ _ _ (kept_moved (in_box raw_box) down (records_in t)) (tablets_moved tablets))
 
-  lists_same : (mems : List (List Record)) → joined (lefts_of_lists area mems) ≡ filter (in_box area) (joined mems)
+  lists_same : (mems : List (List Record)) → joined (lefts_of_lists raw_box mems) ≡ filter (in_box raw_box) (joined mems)
   lists_same [] = refl
-  lists_same (m ∷ mems) = ap (λ xs. filter (in_box area) m ++ xs) (lists_same mems) ∙ sym (filter-append (in_box area) m (joined mems))
+  lists_same (m ∷ mems) = ap (λ xs. filter (in_box raw_box) m ++ xs) (lists_same mems) ∙ sym (filter-append (in_box raw_box) m (joined mems))
 
   module _ (tablets : List Loaded) (mems : List (List Record)) where
-    pub box_moved : IsPermutation (joined (lefts_of_tablets area down tablets ++ lefts_of_lists area mems)) (filter (in_box area) (gathered true tablets mems))
+    pub box_moved : IsPermutation (joined (lefts_of_tablets raw_box down tablets ++ lefts_of_lists raw_box mems)) (filter (in_box raw_box) (gathered true tablets mems))
     box_moved =
-        subst (λ xs. IsPermutation xs (filter (in_box area) (joined (map records_in tablets) ++ joined mems))) (sym (joined-append (lefts_of_tablets area down tablets) (lefts_of_lists area mems)))
-        (subst (IsPermutation (joined (lefts_of_tablets area down tablets) ++ joined (lefts_of_lists area mems))) (sym (filter-append (in_box area) (joined (map records_in tablets)) (joined mems)))
-        (IsPermutation-append _ _ _ _ (tablets_moved tablets) (subst (λ xs. IsPermutation xs (filter (in_box area) (joined mems))) (sym (lists_same mems)) (IsPermutation-refl (filter (in_box area) (joined mems))))))
+        subst (λ xs. IsPermutation xs (filter (in_box raw_box) (joined (map records_in tablets) ++ joined mems))) (sym (joined-append (lefts_of_tablets raw_box down tablets) (lefts_of_lists raw_box mems)))
+        (subst (IsPermutation (joined (lefts_of_tablets raw_box down tablets) ++ joined (lefts_of_lists raw_box mems))) (sym (filter-append (in_box raw_box) (joined (map records_in tablets)) (joined mems)))
+        (IsPermutation-append _ _ _ _ (tablets_moved tablets) (subst (λ xs. IsPermutation xs (filter (in_box raw_box) (joined mems))) (sym (lists_same mems)) (IsPermutation-refl (filter (in_box raw_box) (joined mems))))))
 
-    all_distinct : HaveDistinctKeys (gathered true tablets mems) → HaveDistinctKeys (joined (lefts_of_tablets area down tablets ++ lefts_of_lists area mems))
-    all_distinct h = distinct_moved _ _ (IsPermutation-sym _ _ box_moved) (AllPairs-filter (λ (r s : Record). r.key ≢ s.key) (in_box area) (gathered true tablets mems) h)
+    all_distinct : HaveDistinctKeys (gathered true tablets mems) → HaveDistinctKeys (joined (lefts_of_tablets raw_box down tablets ++ lefts_of_lists raw_box mems))
+    all_distinct h = distinct_moved _ _ (IsPermutation-sym _ _ box_moved) (AllPairs-filter (λ (r s : Record). r.key ≢ s.key) (in_box raw_box) (gathered true tablets mems) h)
 
-    kept_ordered : (recs : List Record) → IsInOrder down recs → IsInOrder down (filter (in_box area) recs)
-    kept_ordered recs h = AllPairs-filter (λ (r s : Record). is_before down r.key s.key ≡ true) (in_box area) recs h
+    kept_ordered : (recs : List Record) → IsInOrder down recs → IsInOrder down (filter (in_box raw_box) recs)
+    kept_ordered recs h = AllPairs-filter (λ (r s : Record). is_before down r.key s.key ≡ true) (in_box raw_box) recs h
 
-    all_ordered : AreInOrder down tablets → All (IsInOrder down) mems → All (IsInOrder down) (lefts_of_tablets area down tablets ++ lefts_of_lists area mems)
-    all_ordered told lists =
-        All-append (IsInOrder down) (lefts_of_tablets area down tablets) (lefts_of_lists area mems)
-        (All-map (IsInOrder down) (λ t. filter (in_box area) (in_order down (records_in t))) tablets (λ k d w. kept_ordered (in_order down (records_in (get_or tablets k d))) (told k d w)))
-        (All-map (IsInOrder down) (filter (in_box area)) mems (λ k d w. kept_ordered (get_or mems k d) (lists k d w)))
+    all_ordered : AreInOrder down tablets → All (IsInOrder down) mems → All (IsInOrder down) (lefts_of_tablets raw_box down tablets ++ lefts_of_lists raw_box mems)
+    all_ordered rising lists =
+        All-append (IsInOrder down) (lefts_of_tablets raw_box down tablets) (lefts_of_lists raw_box mems)
+        (All-map (IsInOrder down) (λ t. filter (in_box raw_box) (in_order down (records_in t))) tablets (λ k d w. kept_ordered (in_order down (records_in (get_or tablets k d))) (rising k d w)))
+        (All-map (IsInOrder down) (filter (in_box raw_box)) mems (λ k d w. kept_ordered (get_or mems k d) (lists k d w)))
 
-    module _ (sources : List (List Record)) (same : sources ≡ lefts_of_tablets area down tablets ++ lefts_of_lists area mems) where
+    module _ (sources : List (List Record)) (same : sources ≡ lefts_of_tablets raw_box down tablets ++ lefts_of_lists raw_box mems) where
       pub start_sound : (waiting : List ℕ) → ((at : ℕ) → at < length sources → Contains waiting at) → AreInOrder down tablets → All (IsInOrder down) mems → HaveDistinctKeys (gathered true tablets mems) → IsSound down [] sources waiting
-      start_sound waiting all told lists distinct = record {
-        ordered = subst (All (IsInOrder down)) (sym same) (all_ordered told lists);
+      start_sound waiting all rising lists distinct = record {
+        ordered = subst (All (IsInOrder down)) (sym same) (all_ordered rising lists);
         distinct = subst (λ (ls : List (List Record)). HaveDistinctKeys (joined ls)) (sym same) (all_distinct distinct);
         led = λ at w. inl (all at w);
       }
@@ -98,5 +98,5 @@ module _ (area : RawBox) (down : Bool) where
       pub start_sorted : HaveDistinctKeys (gathered true tablets mems) → IsInOrder down (arranged down (all_left [] sources))
       start_sorted distinct = arranged_ordered down (joined sources) (subst (λ (ls : List (List Record)). HaveDistinctKeys (joined ls)) (sym same) (all_distinct distinct))
 
-      pub start_exact : IsPermutation (arranged down (all_left [] sources)) (filter (in_box area) (gathered true tablets mems))
-      start_exact = IsPermutation-trans _ _ _ (IsPermutation-sym _ _ (arranged_moves down (joined sources))) (subst (λ (ls : List (List Record)). IsPermutation (joined ls) (filter (in_box area) (gathered true tablets mems))) (sym same) box_moved)
+      pub start_exact : IsPermutation (arranged down (all_left [] sources)) (filter (in_box raw_box) (gathered true tablets mems))
+      start_exact = IsPermutation-trans _ _ _ (IsPermutation-sym _ _ (arranged_moves down (joined sources))) (subst (λ (ls : List (List Record)). IsPermutation (joined ls) (filter (in_box raw_box) (gathered true tablets mems))) (sym same) box_moved)

@@ -13,7 +13,7 @@ gathered false tablets mems = joined mems
 
 -- how many blocks of a tablet may have records of the box: those of its index range
 abbrev pub range_len : RawBox → Loaded → ℕ
-range_len area t = count_by (λ e. times_meet area t.listed && may_have area e) t.index
+range_len raw_box t = count_by (λ e. times_meet raw_box t.listed && may_have raw_box e) t.index
 
 abbrev pub range_lens : RawBox → List Loaded → ℕ
-range_lens area tablets = sum_by (range_len area) tablets
+range_lens raw_box tablets = sum_by (range_len raw_box) tablets

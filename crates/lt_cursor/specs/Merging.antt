@@ -12,14 +12,14 @@ use Rattle.lt_cursor.specs.Strands.{Strand, left_of}
 
 -- the box, the heads that are held, what is left of each source, and the sources that wait for a head
 pub record Merging : Type 0 where
-  pub area : RawBox
+  pub raw_box : RawBox
   pub held : Held
   pub strands : List Strand
   pub waiting : List ℕ
 
 -- what is left of each source in the box
 abbrev pub lefts : Merging → List (List Record)
-lefts m = map (left_of m.area) m.strands
+lefts m = map (left_of m.raw_box) m.strands
 
 -- all records that are still to be given
 abbrev pub all_left : List Head → List (List Record) → List Record

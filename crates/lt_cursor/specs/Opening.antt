@@ -8,10 +8,10 @@ use Rattle.lt_tablet.specs.Loaded.{Loaded, records_in}
 use Rattle.lt_cursor.specs.Order.{in_order, IsInOrder}
 
 abbrev pub lefts_of_tablets : RawBox → Bool → List Loaded → List (List Record)
-lefts_of_tablets area down tablets = map (λ t. filter (in_box area) (in_order down (records_in t))) tablets
+lefts_of_tablets raw_box down tablets = map (λ t. filter (in_box raw_box) (in_order down (records_in t))) tablets
 
 abbrev pub lefts_of_lists : RawBox → List (List Record) → List (List Record)
-lefts_of_lists area mems = map (filter (in_box area)) mems
+lefts_of_lists raw_box mems = map (filter (in_box raw_box)) mems
 
 -- the records of each tablet are in the order of reading
 abbrev pub AreInOrder : Bool → List Loaded → Type 0

@@ -25,5 +25,5 @@ IsNeverBad (Ended why) = IsNoBad why
 -- what holds of a cursor over a device that tells what it holds: its sources are sound until a read is refused, and no
 -- refusal is that of a broken rule
 abbrev pub IsKept : Bool → Merging → Option ReadError → Type 0
-IsKept told m None = told ≡ true → IsSoundMerging m m.waiting
-IsKept told m (Some why) = told ≡ true → IsNoBad why
+IsKept honest m None = honest ≡ true → IsSoundMerging m m.waiting
+IsKept honest m (Some why) = honest ≡ true → IsNoBad why

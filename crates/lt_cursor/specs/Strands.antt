@@ -18,7 +18,7 @@ pub record Strand : Type 0 where
 
 -- the records of the box that a source will give
 abbrev pub left_of : RawBox → Strand → List Record
-left_of area s = filter (in_box area) (s.held ++ s.unread)
+left_of raw_box s = filter (in_box raw_box) (s.held ++ s.unread)
 
 abbrev pub recs_or_none : Option (List Record) → List Record
 recs_or_none None = []

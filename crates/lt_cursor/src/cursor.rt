@@ -44,21 +44,21 @@ impl<V: Device> Cursor<V> {
         alloc: Global,
         tablets: Vec<Arc<Tablet<V>>>,
         mems: Vec<RecList>,
-        area: RawBox,
+        raw_box: RawBox,
         down: bool,
     ) -> Result<Cursor<V>, NoMemory>
         requires distinct { HaveDistinctKeys (gathered V.honest (map arc_value tablets.items) mems.items) }
         requires ordered { All (IsInOrder down) mems.items }
         ensures sorted { V.honest ≡ true → IfOk result (λ cursor. IsInOrder down cursor.coming) }
         // Where the device tells its files' bytes, exactly the box's records of all sources are to come, each once.
-        ensures exact { V.honest ≡ true → IfOk result (λ cursor. IsPermutation cursor.coming (filter (in_box area) (gathered true (map arc_value tablets.items) mems.items))) }
-        ensures blocks { IfOk result (λ cursor. cursor.blocks ≡ range_lens area (map arc_value tablets.items)) }
+        ensures exact { V.honest ≡ true → IfOk result (λ cursor. IsPermutation cursor.coming (filter (in_box raw_box) (gathered true (map arc_value tablets.items) mems.items))) }
+        ensures blocks { IfOk result (λ cursor. cursor.blocks ≡ range_lens raw_box (map arc_value tablets.items)) }
         ensures begun { IfOk result (λ cursor. cursor.refusal ≡ None) }
     {
-        let sources = sources_of(alloc, tablets, mems, &area, down)?;
+        let sources = sources_of(alloc, tablets, mems, &raw_box, down)?;
         let waiting = all_places(alloc, sources.as_slice().len())?;
         Ok(Cursor {
-            merge: Merge::new(alloc, area, down, sources, waiting),
+            merge: Merge::new(alloc, raw_box, down, sources, waiting),
             refusal: None,
         })
     }

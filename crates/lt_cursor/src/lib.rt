@@ -8,10 +8,7 @@ mod opening;
 mod page;
 mod places;
 mod source;
-mod stored;
+mod tablet_scan;
 
 pub use cursor::Cursor;
 pub use error::CursorError;
-
-#[cfg(test)]
-mod tests;

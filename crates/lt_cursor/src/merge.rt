@@ -18,7 +18,7 @@ use std::sync::ledger::Ledger;
 /// Sources and the heads of those that don't wait for one. Contracts see these parts.
 #[derive(Drop)]
 pub struct Merge<V: Device> {
-    area: RawBox,
+    raw_box: RawBox,
     heads: Heads,
     sources: Vec<Source<V>>,
     waiting: Vec<usize>,
@@ -29,25 +29,25 @@ impl<V: Device> Model for Merge<V> {
 
     ghost Value = { Merging };
 
-    ghost view = { λ m. record { area = m.area; held = m.heads; strands = m.sources.items; waiting = m.waiting.items } };
+    ghost view = { λ m. record { raw_box = m.raw_box; held = m.heads; strands = m.sources.items; waiting = m.waiting.items } };
 
-    ghost invariant = { λ m. ArePlaces (record { area = m.area; held = m.heads; strands = m.sources.items; waiting = m.waiting.items }) };
+    ghost invariant = { λ m. ArePlaces (record { raw_box = m.raw_box; held = m.heads; strands = m.sources.items; waiting = m.waiting.items }) };
 }
 
 impl<V: Device> Merge<V> {
     /// No head is held, and these sources wait for one. Takes no memory.
     pub fn new(
         alloc: Global,
-        area: RawBox,
+        raw_box: RawBox,
         down: bool,
         sources: Vec<Source<V>>,
         waiting: Vec<usize>,
     ) -> Merge<V>
         requires { All (λ at. at < length sources.items) waiting.items }
-        ensures { result ≡ record { area = area; held = record { down = down; heads = [] }; strands = sources.items; waiting = waiting.items } }
+        ensures { result ≡ record { raw_box = raw_box; held = record { down = down; heads = [] }; strands = sources.items; waiting = waiting.items } }
     {
         Merge {
-            area,
+            raw_box,
             heads: Heads::new(alloc, down),
             sources,
             waiting,
@@ -87,7 +87,7 @@ impl<V: Device> Merge<V> {
     {
         let alloc = *self.sources.allocator();
         let source = &mut self.sources[at];
-        let Some(rec) = source.next(alloc, dev, &self.area, steps)? else {
+        let Some(rec) = source.next(alloc, dev, &self.raw_box, steps)? else {
             return Ok(());
         };
         match self.heads.put(at as u64, rec) {

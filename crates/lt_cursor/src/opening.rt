@@ -18,16 +18,16 @@ use std::sync::Arc;
 fn of_tablets<V: Device>(
     alloc: Global,
     tablets: Vec<Arc<Tablet<V>>>,
-    area: &RawBox,
+    raw_box: &RawBox,
     down: bool,
 ) -> Result<Vec<Source<V>>, NoMemory>
-    ensures blocks { IfOk result (λ sources. sum_by (λ s. s.blocks) sources.items ≡ range_lens area.now (map arc_value tablets.items)) }
-    ensures records { V.honest ≡ true → IfOk result (λ sources. map (left_of area.now) sources.items ≡ lefts_of_tablets area.now down (map arc_value tablets.items)) }
+    ensures blocks { IfOk result (λ sources. sum_by (λ s. s.blocks) sources.items ≡ range_lens raw_box.now (map arc_value tablets.items)) }
+    ensures records { V.honest ≡ true → IfOk result (λ sources. map (left_of raw_box.now) sources.items ≡ lefts_of_tablets raw_box.now down (map arc_value tablets.items)) }
     ensures ordered { V.honest ≡ true → OnOk result (AreInOrder down (map arc_value tablets.items)) }
 {
     let mut sources = Vec::new(alloc);
     for tablet in tablets {
-        sources.push(Source::of_tablet(tablet, area, down))?;
+        sources.push(Source::of_tablet(tablet, raw_box, down))?;
     }
     Ok(sources)
 }
@@ -36,10 +36,10 @@ fn of_tablets<V: Device>(
 fn add_lists<V: Device>(
     sources: &mut Vec<Source<V>>,
     mems: Vec<RecList>,
-    area: &RawBox,
+    raw_box: &RawBox,
 ) -> Result<(), NoMemory>
     ensures blocks { OnOk result (sum_by (λ s. s.blocks) sources.new.items ≡ sum_by (λ s. s.blocks) sources.old.items) }
-    ensures records { OnOk result (map (left_of area.now) sources.new.items ≡ map (left_of area.now) sources.old.items ++ lefts_of_lists area.now mems.items) }
+    ensures records { OnOk result (map (left_of raw_box.now) sources.new.items ≡ map (left_of raw_box.now) sources.old.items ++ lefts_of_lists raw_box.now mems.items) }
 {
     for list in mems {
         sources.push(Source::of_list(list))?;
@@ -52,15 +52,15 @@ pub fn sources_of<V: Device>(
     alloc: Global,
     tablets: Vec<Arc<Tablet<V>>>,
     mems: Vec<RecList>,
-    area: &RawBox,
+    raw_box: &RawBox,
     down: bool,
 ) -> Result<Vec<Source<V>>, NoMemory>
-    ensures blocks { IfOk result (λ sources. sum_by (λ s. s.blocks) sources.items ≡ range_lens area.now (map arc_value tablets.items)) }
-    ensures records { V.honest ≡ true → IfOk result (λ sources. map (left_of area.now) sources.items ≡ lefts_of_tablets area.now down (map arc_value tablets.items) ++ lefts_of_lists area.now mems.items) }
+    ensures blocks { IfOk result (λ sources. sum_by (λ s. s.blocks) sources.items ≡ range_lens raw_box.now (map arc_value tablets.items)) }
+    ensures records { V.honest ≡ true → IfOk result (λ sources. map (left_of raw_box.now) sources.items ≡ lefts_of_tablets raw_box.now down (map arc_value tablets.items) ++ lefts_of_lists raw_box.now mems.items) }
     ensures ordered { V.honest ≡ true → OnOk result (AreInOrder down (map arc_value tablets.items)) }
 {
-    let mut sources = of_tablets(alloc, tablets, area, down)?;
-    add_lists(&mut sources, mems, area)?;
+    let mut sources = of_tablets(alloc, tablets, raw_box, down)?;
+    add_lists(&mut sources, mems, raw_box)?;
     Ok(sources)
 }
 

@@ -51,22 +51,22 @@ impl Page {
     }
 
     /// Leaves the next record out, and gives it if it is one of the box.
-    fn step(&mut self, alloc: Global, area: &RawBox) -> Result<Option<Rec>, NoMemory>
+    fn step(&mut self, alloc: Global, raw_box: &RawBox) -> Result<Option<Rec>, NoMemory>
         requires some { 0 < length self.old }
         ensures shorter { length self.new < length self.old }
-        ensures given { IfOk result (λ given. filter (in_box area.now) self.old ≡ cons_option given (filter (in_box area.now) self.new)) }
+        ensures given { IfOk result (λ given. filter (in_box raw_box.now) self.old ≡ cons_option given (filter (in_box raw_box.now) self.new)) }
     {
         let at = self.places.take_first();
-        copied(alloc, area, &self.block.get(at))
+        copied(alloc, raw_box, &self.block.get(at))
     }
 
     /// The next record of the box, copied; `None` exactly where there is none left.
-    pub fn next_in(&mut self, alloc: Global, area: &RawBox) -> Result<Option<Rec>, NoMemory>
-        ensures given { IfOk result (λ given. filter (in_box area.now) self.old ≡ cons_option given (filter (in_box area.now) self.new)) }
+    pub fn next_in(&mut self, alloc: Global, raw_box: &RawBox) -> Result<Option<Rec>, NoMemory>
+        ensures given { IfOk result (λ given. filter (in_box raw_box.now) self.old ≡ cons_option given (filter (in_box raw_box.now) self.new)) }
         ensures empty { IfOk result (λ given. IfNone given (self.new ≡ [])) }
     {
         while !self.is_empty() {
-            if let Some(rec) = self.step(alloc, area)? {
+            if let Some(rec) = self.step(alloc, raw_box)? {
                 return Ok(Some(rec));
             }
         }
@@ -75,11 +75,11 @@ impl Page {
 }
 
 /// A copy of the record, if it is one of the box.
-fn copied(alloc: Global, area: &RawBox, rec: &RecView<'_>) -> Result<Option<Rec>, NoMemory>
+fn copied(alloc: Global, raw_box: &RawBox, rec: &RecView<'_>) -> Result<Option<Rec>, NoMemory>
     requires { IsRecord rec.now }
-    ensures { IfOk result (λ given. given ≡ (if in_box area.now rec.now then Some rec.now else None)) }
+    ensures { IfOk result (λ given. given ≡ (if in_box raw_box.now rec.now then Some rec.now else None)) }
 {
-    if area.admits(rec.key(), rec.ts()) {
+    if raw_box.admits(rec.key(), rec.ts()) {
         Ok(Some(rec.to_rec(alloc)?))
     } else {
         Ok(None)

@@ -10,7 +10,7 @@ ghost use Rattle.lt_cursor.specs.Order.{in_order, IsInOrder};
 ghost use Rattle.lt_cursor.specs.Refusals.{IsNoFault};
 ghost use Rattle.lt_cursor.specs.Strands.{left_of, strand_in_memory};
 
-use crate::stored::Stored;
+use crate::tablet_scan::TabletScan;
 use lt_io::Device;
 use lt_rec::{NoMemory, RawBox, Rec, RecList, Steps};
 use lt_tablet::{ReadError, Tablet};
@@ -21,7 +21,7 @@ use std::sync::ledger::Ledger;
 
 #[derive(Drop)]
 pub enum Kind<V: Device> {
-    Stored(Stored<V>),
+    Tablet(TabletScan<V>),
     Memory(RecList),
 }
 
@@ -43,13 +43,13 @@ impl<V: Device> Model for Source<V> {
 
 impl<V: Device> Source<V> {
     /// The tablet's blocks that may have records of the box. Takes no memory.
-    pub fn of_tablet(tablet: Arc<Tablet<V>>, area: &RawBox, down: bool) -> Source<V>
-        ensures blocks { result.blocks ≡ range_len area.now (arc_value tablet) }
-        ensures records { V.honest ≡ true → left_of area.now result ≡ filter (in_box area.now) (in_order down (records_in (arc_value tablet))) }
+    pub fn of_tablet(tablet: Arc<Tablet<V>>, raw_box: &RawBox, down: bool) -> Source<V>
+        ensures blocks { result.blocks ≡ range_len raw_box.now (arc_value tablet) }
+        ensures records { V.honest ≡ true → left_of raw_box.now result ≡ filter (in_box raw_box.now) (in_order down (records_in (arc_value tablet))) }
         ensures ordered { V.honest ≡ true → IsInOrder down (in_order down (records_in (arc_value tablet))) }
     {
         Source {
-            kind: Kind::Stored(Stored::new(tablet, area, down)),
+            kind: Kind::Tablet(TabletScan::new(tablet, raw_box, down)),
         }
     }
 
@@ -67,7 +67,7 @@ impl<V: Device> Source<V> {
         ensures { IfSome result (λ why. IsNoFault why) }
     {
         match &self.kind {
-            Kind::Stored(stored) => Some(stored.damage()),
+            Kind::Tablet(scan) => Some(scan.damage()),
             Kind::Memory(_) => None,
         }
     }
@@ -77,29 +77,29 @@ impl<V: Device> Source<V> {
         &mut self,
         alloc: Global,
         dev: &mut V,
-        area: &RawBox,
+        raw_box: &RawBox,
         steps: &mut Steps<L>,
     ) -> Result<Option<Rec>, ReadError>
-        ensures given { V.honest ≡ true → IfOk result (λ given. left_of area.now self.old ≡ cons_option given (left_of area.now self.new)) }
-        ensures empty { V.honest ≡ true → IfOk result (λ given. IfNone given (left_of area.now self.new ≡ [])) }
+        ensures given { V.honest ≡ true → IfOk result (λ given. left_of raw_box.now self.old ≡ cons_option given (left_of raw_box.now self.new)) }
+        ensures empty { V.honest ≡ true → IfOk result (λ given. IfNone given (left_of raw_box.now self.new ≡ [])) }
         ensures ticks { steps.new + self.new.blocks ≡ steps.old + self.old.blocks }
         ensures never_bad { V.honest ≡ true → IfErr result (λ why. IsNoBad why) }
         ensures cause { Counts (V.faults dev.old) (V.faults dev.new) (IsErrOf result ReadError.Fault) }
     {
         match &mut self.kind {
-            Kind::Stored(stored) => stored.next(alloc, dev, area, steps),
-            Kind::Memory(list) => Ok(next_in_list(list, area)?),
+            Kind::Tablet(scan) => scan.next(alloc, dev, raw_box, steps),
+            Kind::Memory(list) => Ok(next_in_list(list, raw_box)?),
         }
     }
 }
 
 /// The list's next record of the box, copied; `None` exactly where there is none left.
-fn next_in_list(list: &mut RecList, area: &RawBox) -> Result<Option<Rec>, NoMemory>
-    ensures given { IfOk result (λ given. filter (in_box area.now) list.old ≡ cons_option given (filter (in_box area.now) list.new)) }
+fn next_in_list(list: &mut RecList, raw_box: &RawBox) -> Result<Option<Rec>, NoMemory>
+    ensures given { IfOk result (λ given. filter (in_box raw_box.now) list.old ≡ cons_option given (filter (in_box raw_box.now) list.new)) }
     ensures empty { IfOk result (λ given. IfNone given (list.new ≡ [])) }
 {
     while let Some(rec) = list.first() {
-        if area.has(rec) {
+        if raw_box.has(rec) {
             let given = rec.clone()?;
             list.skip_first();
             return Ok(Some(given));

@@ -4,7 +4,7 @@ use Rattle.std.specs.List.Sorted.{IsPermutation, IsStrictlyIncreasing}
 use Rattle.std.proofs.lemmas.List.{get_or-take, length-take, length-take-le}
 use Rattle.std.proofs.lemmas.List.Sorted.{list_any-IsPermutation}
 use Rattle.std.proofs.lemmas.Bool.{cases_lt}
-use Rattle.lt_deps.specs.Closure.{has, IsClosed, IsClosure}
+use Rattle.lt_rec.specs.Closure.{has, IsClosed, IsClosure}
 use Rattle.lt_deps.specs.Kept.{IsAt, Holds, AreDistinct}
 use Rattle.lt_deps.proofs.Rows.{has_at, at_has}
 

@@ -5,7 +5,7 @@ use Rattle.std.proofs.lemmas.List.{get_or-drop, get_or-set_same, get_or-set_othe
 use Rattle.std.proofs.lemmas.List.Sums.{prefix_len_passes, prefix_len_stops}
 use Rattle.std.proofs.lemmas.Bool.{cases_lt, false_from_ne_true}
 use Rattle.std.proofs.Math.ListN.{get_or-append}
-use Rattle.lt_deps.specs.Closure.{has, IsClosed}
+use Rattle.lt_rec.specs.Closure.{has, IsClosed}
 use Rattle.lt_deps.specs.Kept.{IsAt, Holds}
 use Rattle.lt_deps.proofs.Rows.{same_place, filter_end, at_more, at_before, new_row}
 

@@ -7,7 +7,7 @@ use Rattle.std.proofs.lemmas.List.Elements.{recursion_from_All}
 use Rattle.std.proofs.lemmas.List.Folds.{list_any_at, Any-from_list_any}
 use Rattle.std.proofs.lemmas.Bool.{cases_lt, cases_Bool, eqb-true, ne_eqb}
 use Rattle.std.proofs.lemmas.Grind.{get_or_default_zero}
-use Rattle.lt_deps.specs.Closure.{has}
+use Rattle.lt_rec.specs.Closure.{has}
 use Rattle.lt_deps.specs.Kept.{IsAt}
 
 -- a tablet stands at one place alone

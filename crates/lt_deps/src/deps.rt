@@ -1,5 +1,5 @@
 ghost use Rattle.std.specs.Prelude.{◌≡◌, ℕ, ◌+◌, ◌<◌, ◌≤◌, [], ◌∷◌, ◌++◌, List, OnOk, OnErr, IfOk, not, filter};
-ghost use Rattle.lt_deps.specs.Closure.{has, IsClosed, IsClosure};
+ghost use Rattle.lt_rec.specs.Closure.{has, IsClosed, IsClosure};
 ghost use Rattle.lt_deps.specs.Kept.{StandsFor};
 
 use crate::places::{front_in, front_of, leave_front, place_of, rising};

@@ -5,6 +5,3 @@ mod deps;
 mod places;
 
 pub use deps::Deps;
-
-#[cfg(test)]
-mod tests;

@@ -2,7 +2,7 @@ ghost use Rattle.std.specs.Prelude.{◌≡◌, ◌≢◌, ℕ, ◌+◌, ◌<◌,
 ghost use Rattle.std.specs.List.{prefix_len};
 ghost use Rattle.std.specs.List.Sorted.{IsPermutation, IsStrictlyIncreasing};
 ghost use Rattle.std.specs.Vec.{vec_capacity, vec_len};
-ghost use Rattle.lt_deps.specs.Closure.{has};
+ghost use Rattle.lt_rec.specs.Closure.{has};
 ghost use Rattle.lt_deps.specs.Kept.{AreDistinct, AreUpTo};
 
 use lt_rec::{NoMemory, TabletId};

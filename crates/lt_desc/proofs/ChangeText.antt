@@ -18,8 +18,10 @@ use Rattle.lt_schema.specs.Versions.{SchemaVersions, changed, after_changes, sch
 use Rattle.lt_schema.proofs.Growing.{lawful_from, none_is, is_versions-more, is_schema-newest, changes_few}
 use Rattle.lt_desc.specs.Lawful.{fits_column, fits_change}
 use Rattle.lt_desc.specs.Spelling.{column_spelled, place_of, change_spelled, changes_spelled, first_spelled, schemas_spelled}
-use Rattle.lt_desc.specs.Reading.{◌>>=◌, place, holds, asked, or_fault, byte_at, number_at, number_where, is_within, column_at, narrow_name, append_at, widen_at, change_at, with_change, repeated, next_change, first_at, schemas_at}
-use Rattle.lt_desc.proofs.Taken.{IsBytes, bind_ok, ok_is, asked_ok, or_fault_ok, holds_ok, holds_again, Takes, Takes-then, Takes-as, byte_takes, takes32, again32, where32, again_where32}
+use Rattle.lt_rec.specs.Reading.{◌>>=◌, place, holds, asked, or_fault, is_within}
+use Rattle.lt_desc.specs.Reading.{byte_from, number_from, number_where, column_at, narrow_name, append_at, widen_at, change_at, with_change, repeated, next_change, first_at, schemas_at}
+use Rattle.lt_rec.proofs.Reading.{IsBytes, bind_ok, ok_is, asked_ok, or_fault_ok, holds_ok, holds_again, Takes, Takes-then, Takes-as, byte_takes}
+use Rattle.lt_desc.proofs.Taken.{takes32, again32, where32, again_where32}
 use Rattle.lt_desc.proofs.First.{within_from, same_bytes}
 use Rattle.lt_desc.proofs.Turns.{turns_keep}
 use Rattle.lt_desc.proofs.ColumnText.{not_true, all_more, column_takes, column_again, first_takes, first_again}
@@ -152,7 +154,7 @@ from_number tag s n = or_fault (narrow_name (slice_get s.columns n.0)) tag >>= n
 widen_takes : (tag : ℕ) (s : SchemaShape) (total : ℕ) (bytes : List ℕ) (x : Change × List ℕ) → IsTrue (is_schema s) → IsBytes bytes → widen_at tag s total bytes ≡ Ok x → TailFound s 1 bytes x
 unfolding widen_at change_spelled
 widen_takes tag s total bytes x lawful fits e =
-    let a = bind_ok (number_at w32 total bytes) (from_number tag s) x e in
+    let a = bind_ok (number_from w32 total bytes) (from_number tag s) x e in
     let b = bind_ok (or_fault (narrow_name (slice_get s.columns a.0.0)) tag) (named_change a.0.1) x a.2 in
     let n = takes32 total bytes a.0 fits a.1 in
     let is = narrow_here a.0.0 b.0 s.columns (or_fault_ok (narrow_name (slice_get s.columns a.0.0)) tag b.0 b.1) in
@@ -185,9 +187,9 @@ change_by false at s total bytes tag x lawful z w t e =
 change_takes : (s : SchemaShape) (total : ℕ) (bytes : List ℕ) (x : Change × List ℕ) → IsTrue (is_schema s) → IsBytes bytes → change_at s total bytes ≡ Ok x → ChangeFound s bytes x
 unfolding change_at
 change_takes s total bytes x lawful fits e =
-    let a = bind_ok (asked (is_within 0 1) (place total bytes) (byte_at total bytes)) (from_tag (place total bytes) s total) x e in
-    let g = asked_ok (is_within 0 1) (place total bytes) (byte_at total bytes) a.0 a.1 in
-    change_by (eqb a.0.0 0) (place total bytes) s total bytes a.0 x lawful refl g.1 (byte_takes total bytes a.0 fits g.0) a.2
+    let a = bind_ok (asked (is_within 0 1) (place total bytes) (byte_from total bytes)) (from_tag (place total bytes) s total) x e in
+    let g = asked_ok (is_within 0 1) (place total bytes) (byte_from total bytes) a.0 a.1 in
+    change_by (eqb a.0.0 0) (place total bytes) s total bytes a.0 x lawful refl g.1 (byte_takes (place total bytes) bytes a.0 fits g.0) a.2
 
 -- the column that a name finds
 record Finds (name : List ℕ) (columns : List ColumnShape) : Type 0 where

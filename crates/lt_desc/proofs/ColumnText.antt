@@ -17,8 +17,10 @@ use Rattle.lt_schema.specs.Lawful.{has_name, names_differ, is_short, has_lawful_
 use Rattle.lt_schema.proofs.Growing.{lawful_from, lawful_to}
 use Rattle.lt_desc.specs.Lawful.{fits_column}
 use Rattle.lt_desc.specs.Spelling.{counted, kind_byte, value_spelled, column_spelled, first_spelled}
-use Rattle.lt_desc.specs.Reading.{◌>>=◌, place, asked, number_where, is_within, counted_at, kind_at, value_at, is_new_name, may_be, is_default, blamed, column_at, behind, repeated, next_column, first_at}
-use Rattle.lt_desc.proofs.Taken.{IsBytes, bind_ok, ok_is, asked_ok, asked_again, Takes, Takes-then, counted_takes, counted_again, where32, again_where32}
+use Rattle.lt_rec.specs.Reading.{◌>>=◌, place, asked, is_within}
+use Rattle.lt_desc.specs.Reading.{number_where, counted_at, kind_at, value_at, is_new_name, may_be, is_default, blamed, column_at, behind, repeated, next_column, first_at}
+use Rattle.lt_rec.proofs.Reading.{IsBytes, bind_ok, ok_is, asked_ok, asked_again, Takes, Takes-then}
+use Rattle.lt_desc.proofs.Taken.{counted_takes, counted_again, where32, again_where32}
 use Rattle.lt_desc.proofs.First.{within_parts, within_from}
 use Rattle.lt_desc.proofs.Values.{kind_takes, kind_again, value_takes, value_again}
 use Rattle.lt_desc.proofs.Turns.{turns_keep}

@@ -10,8 +10,8 @@ use Rattle.lt_desc.specs.Shape.{StoneShape}
 use Rattle.lt_desc.specs.Lawful.{lists_file, files_differ, comes_before, leads, rises, IsListed, IsStone}
 use Rattle.lt_desc.proofs.ColumnText.{not_true, not_false, not_or, or_not}
 
-later : (upto next_file more next : ℕ) → upto ≤ more → next_file ≤ next → (t : Listed) → IsListed upto next_file t → IsListed more next t
-later upto next_file more next u f t is = record {
+later : (kept next_file more next : ℕ) → kept ≤ more → next_file ≤ next → (t : Listed) → IsListed kept next_file t → IsListed more next t
+later kept next_file more next u f t is = record {
   file = omega (arith, is.file, f);
   rows = is.rows;
   times = is.times;
@@ -23,21 +23,21 @@ later upto next_file more next u f t is = record {
   settled = omega (arith, is.settled, u);
 }
 
-all_later : (upto next_file more next : ℕ) → upto ≤ more → next_file ≤ next → (tablets : List Listed) → AllByRecursion (IsListed upto next_file) tablets → AllByRecursion (IsListed more next) tablets
-all_later upto next_file more next u f [] all = tt
-all_later upto next_file more next u f (t ∷ tablets) all = (later upto next_file more next u f t all.0, all_later upto next_file more next u f tablets all.1)
+all_later : (kept next_file more next : ℕ) → kept ≤ more → next_file ≤ next → (tablets : List Listed) → AllByRecursion (IsListed kept next_file) tablets → AllByRecursion (IsListed more next) tablets
+all_later kept next_file more next u f [] all = tt
+all_later kept next_file more next u f (t ∷ tablets) all = (later kept next_file more next u f t all.0, all_later kept next_file more next u f tablets all.1)
 
 -- a stone with other schemas and later numbers
-pub IsStone-later : (s : StoneShape) (upto low next_file : ℕ) (schemas : SchemaVersions) → IsStone s → s.upto ≤ upto → upto ≤ 2 ^ 62 → low < 2 ^ 62 → s.next_file ≤ next_file → next_file ≤ 2 ^ 62 → IsTrue (is_versions schemas)
-    → IsStone (record { upto = upto; low = low; ttl = s.ttl; next_file = next_file; schemas = schemas; tablets = s.tablets })
-IsStone-later s upto low next_file schemas is u bound_upto bound_low f bound_file lawful = record {
-  upto = bound_upto;
+pub IsStone-later : (s : StoneShape) (kept low next_file : ℕ) (schemas : SchemaVersions) → IsStone s → s.kept ≤ kept → kept ≤ 2 ^ 62 → low < 2 ^ 62 → s.next_file ≤ next_file → next_file ≤ 2 ^ 62 → IsTrue (is_versions schemas)
+    → IsStone (record { kept = kept; low = low; ttl = s.ttl; next_file = next_file; schemas = schemas; tablets = s.tablets })
+IsStone-later s kept low next_file schemas is u bound_upto bound_low f bound_file lawful = record {
+  kept = bound_upto;
   low = bound_low;
   ttl = is.ttl;
   next_file = bound_file;
   schemas = lawful;
   few = is.few;
-  tablets = all_later s.upto s.next_file upto next_file u f s.tablets is.tablets;
+  tablets = all_later s.kept s.next_file kept next_file u f s.tablets is.tablets;
   rising = is.rising;
   once = is.once;
 }
@@ -90,11 +90,11 @@ differ_kept keep (t ∷ tablets) differ =
     go true none rest = and_from (not (lists_file (filter keep tablets) t.file)) (files_differ (filter keep tablets)) (not_false (lists_file (filter keep tablets) t.file) none) rest
     go false none rest = rest
 
-each_kept : (upto next_file : ℕ) (keep : Listed → Bool) (tablets : List Listed) → AllByRecursion (IsListed upto next_file) tablets → AllByRecursion (IsListed upto next_file) (filter keep tablets)
-each_kept upto next_file keep [] all = tt
-each_kept upto next_file keep (t ∷ tablets) all = go (keep t) (each_kept upto next_file keep tablets all.1)
+each_kept : (kept next_file : ℕ) (keep : Listed → Bool) (tablets : List Listed) → AllByRecursion (IsListed kept next_file) tablets → AllByRecursion (IsListed kept next_file) (filter keep tablets)
+each_kept kept next_file keep [] all = tt
+each_kept kept next_file keep (t ∷ tablets) all = go (keep t) (each_kept kept next_file keep tablets all.1)
   where
-    go : (b : Bool) → AllByRecursion (IsListed upto next_file) (filter keep tablets) → AllByRecursion (IsListed upto next_file) (cond b (t ∷ filter keep tablets) (filter keep tablets))
+    go : (b : Bool) → AllByRecursion (IsListed kept next_file) (filter keep tablets) → AllByRecursion (IsListed kept next_file) (cond b (t ∷ filter keep tablets) (filter keep tablets))
     go true rest = (all.0, rest)
     go false rest = rest
 
@@ -107,15 +107,15 @@ fewer_kept keep (t ∷ tablets) = go (keep t) (fewer_kept keep tablets)
     go false le = omega (arith, le)
 
 -- a stone without some of its tablets
-pub IsStone-kept : (s : StoneShape) (keep : Listed → Bool) → IsStone s → IsStone (record { upto = s.upto; low = s.low; ttl = s.ttl; next_file = s.next_file; schemas = s.schemas; tablets = filter keep s.tablets })
+pub IsStone-kept : (s : StoneShape) (keep : Listed → Bool) → IsStone s → IsStone (record { kept = s.kept; low = s.low; ttl = s.ttl; next_file = s.next_file; schemas = s.schemas; tablets = filter keep s.tablets })
 IsStone-kept s keep is = record {
-  upto = is.upto;
+  kept = is.kept;
   low = is.low;
   ttl = is.ttl;
   next_file = is.next_file;
   schemas = is.schemas;
   few = omega (arith, is.few, fewer_kept keep s.tablets);
-  tablets = each_kept s.upto s.next_file keep s.tablets is.tablets;
+  tablets = each_kept s.kept s.next_file keep s.tablets is.tablets;
   rising = rises_kept keep s.tablets is.rising;
   once = differ_kept keep s.tablets is.once;
 }

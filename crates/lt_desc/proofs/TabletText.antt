@@ -14,8 +14,10 @@ use Rattle.lt_desc.specs.declared.listing.Sizes.{Sizes}
 use Rattle.lt_desc.specs.declared.listing.Times.{Times}
 use Rattle.lt_desc.specs.Lawful.{lists_file, files_differ, comes_before, rises, IsListed, fits_tablet}
 use Rattle.lt_desc.specs.Spelling.{tablet_spelled, listing_spelled}
-use Rattle.lt_desc.specs.Reading.{◌>>=◌, place, holds, number_at, number_where, is_within, follows, spans, sizes_at, stretch_at, times_at, span_at, listed_of, tablet_at, behind, repeated, next_tablet, listing_at}
-use Rattle.lt_desc.proofs.Taken.{IsBytes, bind_ok, ok_is, holds_ok, Takes, Takes-then, Takes-as, takes32, takes64, again32, again64, where64, again_where64}
+use Rattle.lt_rec.specs.Reading.{◌>>=◌, place, holds, is_within}
+use Rattle.lt_desc.specs.Reading.{number_from, number_where, follows, spans, sizes_at, stretch_at, times_at, span_at, listed_of, tablet_at, behind, repeated, next_tablet, listing_at}
+use Rattle.lt_rec.proofs.Reading.{IsBytes, bind_ok, ok_is, holds_ok, Takes, Takes-then, Takes-as}
+use Rattle.lt_desc.proofs.Taken.{takes32, takes64, again32, again64, where64, again_where64}
 use Rattle.lt_desc.proofs.First.{within_parts, within_from}
 use Rattle.lt_desc.proofs.Turns.{turns_keep}
 use Rattle.lt_desc.proofs.ColumnText.{not_true, not_false, not_or, or_not, all_more, all_here}
@@ -40,7 +42,7 @@ abbrev sized : ℕ → ℕ → ℕ → Sizes
 sized file rows size = record { file = file; rows = rows; bytes = size }
 
 abbrev from_rows : (total file : ℕ) → ℕ × List ℕ → Result (Sizes × List ℕ) ℕ
-from_rows total file rows = number_at w64 total rows.1 >>= λ size. Ok (sized file rows.0 size.0, size.1)
+from_rows total file rows = number_from w64 total rows.1 >>= λ size. Ok (sized file rows.0 size.0, size.1)
 
 abbrev from_file : (total : ℕ) → ℕ × List ℕ → Result (Sizes × List ℕ) ℕ
 from_file total file = number_where w64 (nat_lt 0) total file.1 >>= from_rows total file.0
@@ -50,7 +52,7 @@ unfolding sizes_at
 sizes_take next_file before total bytes x fits e =
     let a = bind_ok (number_where w64 (is_free next_file before) total bytes) (from_file total) x e in
     let b = bind_ok (number_where w64 (nat_lt 0) total a.0.1) (from_rows total a.0.0) x a.2 in
-    let c = bind_ok (number_at w64 total b.0.1) (λ size. Ok (sized a.0.0 b.0.0 size.0, size.1)) x b.2 in
+    let c = bind_ok (number_from w64 total b.0.1) (λ size. Ok (sized a.0.0 b.0.0 size.0, size.1)) x b.2 in
     let ta = where64 (is_free next_file before) total bytes a.0 fits a.1 in
     let tb = where64 (nat_lt 0) total a.0.1 b.0 ta.takes.rest_fits b.1 in
     let tc = takes64 total b.0.1 c.0 tb.takes.rest_fits c.1 in
@@ -91,7 +93,7 @@ from_start low high total start = number_where w64 (spans start.0 low high) tota
 stretch_takes : (low high total : ℕ) (bytes : List ℕ) (x : (ℕ × ℕ) × List ℕ) → IsBytes bytes → stretch_at low high total bytes ≡ Ok x → StretchFound low high bytes x
 unfolding stretch_at
 stretch_takes low high total bytes x fits e =
-    let a = bind_ok (number_at w64 total bytes) (from_start low high total) x e in
+    let a = bind_ok (number_from w64 total bytes) (from_start low high total) x e in
     let b = bind_ok (number_where w64 (spans a.0.0 low high) total a.0.1) (λ len. Ok ((a.0.0, len.0), len.1)) x a.2 in
     let ta = takes64 total bytes a.0 fits a.1 in
     let tb = where64 (spans a.0.0 low high) total a.0.1 b.0 ta.0.rest_fits b.1 in
@@ -158,39 +160,39 @@ times_again file before total low high start len rest next ordered moments start
 -- ---- the numbers
 
 abbrev is_last : ℕ → ℕ → ℕ → Bool
-is_last upto first n = nat_le first n && nat_lt n upto
+is_last kept first n = nat_le first n && nat_lt n kept
 
-record SpanFound (upto : ℕ) (bytes : List ℕ) (x : (ℕ × ℕ) × List ℕ) : Type 0 where
+record SpanFound (kept : ℕ) (bytes : List ℕ) (x : (ℕ × ℕ) × List ℕ) : Type 0 where
   takes : Takes bytes (two x.0.0 x.0.1) x.1
   ordered : x.0.0 ≤ x.0.1
-  settled : x.0.1 < upto
+  settled : x.0.1 < kept
 
-abbrev from_first : (upto total : ℕ) → ℕ × List ℕ → Result ((ℕ × ℕ) × List ℕ) ℕ
-from_first upto total first = number_where w64 (is_last upto first.0) total first.1 >>= λ last. Ok ((first.0, last.0), last.1)
+abbrev from_first : (kept total : ℕ) → ℕ × List ℕ → Result ((ℕ × ℕ) × List ℕ) ℕ
+from_first kept total first = number_where w64 (is_last kept first.0) total first.1 >>= λ last. Ok ((first.0, last.0), last.1)
 
-span_takes : (upto total : ℕ) (bytes : List ℕ) (x : (ℕ × ℕ) × List ℕ) → IsBytes bytes → span_at upto total bytes ≡ Ok x → SpanFound upto bytes x
+span_takes : (kept total : ℕ) (bytes : List ℕ) (x : (ℕ × ℕ) × List ℕ) → IsBytes bytes → span_at kept total bytes ≡ Ok x → SpanFound kept bytes x
 unfolding span_at
-span_takes upto total bytes x fits e =
-    let a = bind_ok (number_at w64 total bytes) (from_first upto total) x e in
-    let b = bind_ok (number_where w64 (is_last upto a.0.0) total a.0.1) (λ last. Ok ((a.0.0, last.0), last.1)) x a.2 in
+span_takes kept total bytes x fits e =
+    let a = bind_ok (number_from w64 total bytes) (from_first kept total) x e in
+    let b = bind_ok (number_where w64 (is_last kept a.0.0) total a.0.1) (λ last. Ok ((a.0.0, last.0), last.1)) x a.2 in
     let ta = takes64 total bytes a.0 fits a.1 in
-    let tb = where64 (is_last upto a.0.0) total a.0.1 b.0 ta.0.rest_fits b.1 in
-    let w = and_parts (leb a.0.0 b.0.0) (ltb b.0.0 upto) tb.passes in
-    subst (SpanFound upto bytes) (ok_is ((a.0.0, b.0.0), b.0.1) x b.2)
-    (record { takes = Takes-then bytes (to_be_bytes w64 a.0.0) a.0.1 (to_be_bytes w64 b.0.0) b.0.1 ta.0 tb.takes; ordered = leb-true a.0.0 b.0.0 w.0; settled = ltb-true b.0.0 upto w.1 })
+    let tb = where64 (is_last kept a.0.0) total a.0.1 b.0 ta.0.rest_fits b.1 in
+    let w = and_parts (leb a.0.0 b.0.0) (ltb b.0.0 kept) tb.passes in
+    subst (SpanFound kept bytes) (ok_is ((a.0.0, b.0.0), b.0.1) x b.2)
+    (record { takes = Takes-then bytes (to_be_bytes w64 a.0.0) a.0.1 (to_be_bytes w64 b.0.0) b.0.1 ta.0 tb.takes; ordered = leb-true a.0.0 b.0.0 w.0; settled = ltb-true b.0.0 kept w.1 })
 
-span_again : (upto total first last : ℕ) (rest : List ℕ) → first ≤ last → last < upto → upto ≤ 2 ^ 62 → span_at upto total (two first last ++ rest) ≡ Ok ((first, last), rest)
+span_again : (kept total first last : ℕ) (rest : List ℕ) → first ≤ last → last < kept → kept ≤ 2 ^ 62 → span_at kept total (two first last ++ rest) ≡ Ok ((first, last), rest)
 unfolding span_at
-span_again upto total first last rest ordered settled bound =
+span_again kept total first last rest ordered settled bound =
     let r1 : List ℕ = to_be_bytes w64 last ++ rest in
-    ap (λ (q : Result (ℕ × List ℕ) ℕ). q >>= from_first upto total) (again64 total first r1 (omega (arith, ordered, settled, bound)))
-    ∙ ap (λ (q : Result (ℕ × List ℕ) ℕ). q >>= λ n. Ok ((first, n.0), n.1)) (again_where64 (is_last upto first) total last rest (omega (arith, settled, bound)) (and_from (leb first last) (ltb last upto) (le-leb first last ordered) (lt-ltb last upto settled)))
+    ap (λ (q : Result (ℕ × List ℕ) ℕ). q >>= from_first kept total) (again64 total first r1 (omega (arith, ordered, settled, bound)))
+    ∙ ap (λ (q : Result (ℕ × List ℕ) ℕ). q >>= λ n. Ok ((first, n.0), n.1)) (again_where64 (is_last kept first) total last rest (omega (arith, settled, bound)) (and_from (leb first last) (ltb last kept) (le-leb first last ordered) (lt-ltb last kept settled)))
 
 -- ---- a tablet
 
-pub record TabletFound (upto next_file : ℕ) (before : List Listed) (bytes : List ℕ) (x : Listed × List ℕ) : Type 0 where
+pub record TabletFound (kept next_file : ℕ) (before : List Listed) (bytes : List ℕ) (x : Listed × List ℕ) : Type 0 where
   pub takes : Takes bytes (tablet_spelled x.0) x.1
-  pub is : IsListed upto next_file x.0
+  pub is : IsListed kept next_file x.0
   pub new : lists_file before x.0.file ≡ false
   pub behind : follows before x.0.low x.0.file ≡ true
   pub fits : fits_tablet x.0 ≡ true
@@ -217,25 +219,25 @@ entry_text : (sizes : Sizes) (times : Times) (span : ℕ × ℕ) → three sizes
 unfolding tablet_spelled
 entry_text sizes times span = refl
 
-abbrev from_times : (upto total : ℕ) (sizes : Sizes) → Times × List ℕ → Result (Listed × List ℕ) ℕ
-from_times upto total sizes times = span_at upto total times.1 >>= λ span. Ok (listed_of sizes times.0 span.0, span.1)
+abbrev from_times : (kept total : ℕ) (sizes : Sizes) → Times × List ℕ → Result (Listed × List ℕ) ℕ
+from_times kept total sizes times = span_at kept total times.1 >>= λ span. Ok (listed_of sizes times.0 span.0, span.1)
 
-abbrev from_sizes : (upto : ℕ) (before : List Listed) (total : ℕ) → Sizes × List ℕ → Result (Listed × List ℕ) ℕ
-from_sizes upto before total sizes = times_at sizes.0.file before total sizes.1 >>= from_times upto total sizes.0
+abbrev from_sizes : (kept : ℕ) (before : List Listed) (total : ℕ) → Sizes × List ℕ → Result (Listed × List ℕ) ℕ
+from_sizes kept before total sizes = times_at sizes.0.file before total sizes.1 >>= from_times kept total sizes.0
 
-pub tablet_takes : (upto next_file : ℕ) (before : List Listed) (total : ℕ) (bytes : List ℕ) (x : Listed × List ℕ) → IsBytes bytes → tablet_at upto next_file before total bytes ≡ Ok x → TabletFound upto next_file before bytes x
+pub tablet_takes : (kept next_file : ℕ) (before : List Listed) (total : ℕ) (bytes : List ℕ) (x : Listed × List ℕ) → IsBytes bytes → tablet_at kept next_file before total bytes ≡ Ok x → TabletFound kept next_file before bytes x
 unfolding tablet_at
-tablet_takes upto next_file before total bytes x fits e =
-    let a = bind_ok (sizes_at next_file before total bytes) (from_sizes upto before total) x e in
-    let b = bind_ok (times_at a.0.0.file before total a.0.1) (from_times upto total a.0.0) x a.2 in
-    let c = bind_ok (span_at upto total b.0.1) (λ span. Ok (listed_of a.0.0 b.0.0 span.0, span.1)) x b.2 in
+tablet_takes kept next_file before total bytes x fits e =
+    let a = bind_ok (sizes_at next_file before total bytes) (from_sizes kept before total) x e in
+    let b = bind_ok (times_at a.0.0.file before total a.0.1) (from_times kept total a.0.0) x a.2 in
+    let c = bind_ok (span_at kept total b.0.1) (λ span. Ok (listed_of a.0.0 b.0.0 span.0, span.1)) x b.2 in
     let ta = sizes_take next_file before total bytes a.0 fits a.1 in
     let tb = times_take a.0.0.file before total a.0.1 b.0 ta.takes.rest_fits b.1 in
-    let tc = span_takes upto total b.0.1 c.0 tb.takes.rest_fits c.1 in
+    let tc = span_takes kept total b.0.1 c.0 tb.takes.rest_fits c.1 in
     let p2 = Takes-then a.0.1 (four b.0.0.low b.0.0.high b.0.0.start b.0.0.len) b.0.1 (two c.0.0.0 c.0.0.1) c.0.1 tb.takes tc.takes in
     let p1 = Takes-then bytes (three a.0.0.file a.0.0.rows a.0.0.bytes) a.0.1 (four b.0.0.low b.0.0.high b.0.0.start b.0.0.len ++ two c.0.0.0 c.0.0.1) c.0.1 ta.takes p2 in
     let s = spanned_parts b.0.0.start b.0.0.low b.0.0.high b.0.0.len tb.spanned in
-    subst (TabletFound upto next_file before bytes) (ok_is (listed_of a.0.0 b.0.0 c.0.0, c.0.1) x c.2) (record {
+    subst (TabletFound kept next_file before bytes) (ok_is (listed_of a.0.0 b.0.0 c.0.0, c.0.1) x c.2) (record {
       takes = Takes-as bytes _ (tablet_spelled (listed_of a.0.0 b.0.0 c.0.0)) c.0.1 (entry_text a.0.0 b.0.0 c.0.0) p1;
       is = record {
         file = ta.below;
@@ -262,16 +264,16 @@ len_fits len e = by (eqb len 14400000000) (eqb len 86400000000) (eqb len 6048000
     by false false true p q r e = let h = r refl in omega (arith, h)
     by false false false p q r e = absurd cc
 
-pub tablet_again : (upto next_file : ℕ) (before : List Listed) (total : ℕ) (t : Listed) (rest : List ℕ) → IsListed upto next_file t → upto ≤ 2 ^ 62 → next_file ≤ 2 ^ 62 → lists_file before t.file ≡ false → follows before t.low t.file ≡ true → fits_tablet t ≡ true
-    → tablet_at upto next_file before total (tablet_spelled t ++ rest) ≡ Ok (t, rest)
+pub tablet_again : (kept next_file : ℕ) (before : List Listed) (total : ℕ) (t : Listed) (rest : List ℕ) → IsListed kept next_file t → kept ≤ 2 ^ 62 → next_file ≤ 2 ^ 62 → lists_file before t.file ≡ false → follows before t.low t.file ≡ true → fits_tablet t ≡ true
+    → tablet_at kept next_file before total (tablet_spelled t ++ rest) ≡ Ok (t, rest)
 unfolding tablet_at tablet_spelled
-tablet_again upto next_file before total t rest is bound_upto bound_file new next fits =
+tablet_again kept next_file before total t rest is bound_upto bound_file new next fits =
     let f = and_parts (nat_lt t.rows (2 ^ 64)) (nat_lt t.bytes (2 ^ 64)) fits in
     let sizes : Sizes = sized t.file t.rows t.bytes in
     let times : Times = timed t.low t.high (t.period.start, t.period.len) in
     let r2 : List ℕ = two t.first t.last ++ rest in
     let r1 : List ℕ = four t.low t.high t.period.start t.period.len ++ r2 in
     let spanned = spanned_from t.period.start t.low t.high t.period.len (record { length = is.period.length; aligned = is.period.aligned; begun = is.begins_in.begun; not_over = is.ends_in.not_over }) in
-    ap (λ (q : Result (Sizes × List ℕ) ℕ). q >>= from_sizes upto before total) (sizes_again next_file before total t.file t.rows t.bytes r1 is.file bound_file new (omega (arith, is.rows)) (ltb-true t.rows (2 ^ 64) f.0) (ltb-true t.bytes (2 ^ 64) f.1))
-    ∙ (ap (λ (q : Result (Times × List ℕ) ℕ). q >>= from_times upto total sizes) (times_again t.file before total t.low t.high t.period.start t.period.len r2 next is.times is.moments (omega (arith, is.begins_in.begun, is.times, is.moments)) (len_fits t.period.len is.period.length) spanned)
-    ∙ ap (λ (q : Result ((ℕ × ℕ) × List ℕ) ℕ). q >>= λ span. Ok (listed_of sizes times span.0, span.1)) (span_again upto total t.first t.last rest is.numbers is.settled bound_upto))
+    ap (λ (q : Result (Sizes × List ℕ) ℕ). q >>= from_sizes kept before total) (sizes_again next_file before total t.file t.rows t.bytes r1 is.file bound_file new (omega (arith, is.rows)) (ltb-true t.rows (2 ^ 64) f.0) (ltb-true t.bytes (2 ^ 64) f.1))
+    ∙ (ap (λ (q : Result (Times × List ℕ) ℕ). q >>= from_times kept total sizes) (times_again t.file before total t.low t.high t.period.start t.period.len r2 next is.times is.moments (omega (arith, is.begins_in.begun, is.times, is.moments)) (len_fits t.period.len is.period.length) spanned)
+    ∙ ap (λ (q : Result ((ℕ × ℕ) × List ℕ) ℕ). q >>= λ span. Ok (listed_of sizes times span.0, span.1)) (span_again kept total t.first t.last rest is.numbers is.settled bound_upto))

@@ -1,12 +1,13 @@
 -- Steps one after the other, as a loop makes them, and what they keep.
 use Rattle.std.proofs.Common.{◌≡◌, ℕ, zero, suc, ◌+◌, ◌-◌, ◌<◌, ◌≤◌, List, [], ◌∷◌, ◌++◌, Result, Ok, Err, refl, sym, ap, ◌∙◌, subst, arith}
-use Rattle.lt_desc.specs.declared.fault.DescError.{DescError}
-use Rattle.lt_desc.specs.declared.fault.DescError.TheVariants as errors
+use Rattle.lt_rec.specs.declared.fault.FormatError.{FormatError}
+use Rattle.lt_rec.specs.declared.fault.FormatError.TheVariants as errors
 use Rattle.lt_schema.specs.declared.change.Change.{Change}
 use Rattle.lt_schema.specs.Shapes.{SchemaShape}
 use Rattle.lt_schema.specs.Versions.{SchemaVersions, newest}
-use Rattle.lt_desc.specs.Reading.{◌>>=◌, Fails, repeated, behind, change_at, with_change, next_change}
-use Rattle.lt_desc.proofs.Taken.{bind_ok, ok_is}
+use Rattle.lt_rec.specs.Reading.{◌>>=◌, Fails}
+use Rattle.lt_desc.specs.Reading.{repeated, behind, change_at, with_change, next_change}
+use Rattle.lt_rec.proofs.Reading.{bind_ok, ok_is}
 
 abbrev pub Step : Type 0 → Type 0
 Step S = S → List ℕ → Result (S × List ℕ) ℕ
@@ -19,7 +20,7 @@ turn_next step count i s bytes t rest whole lt one so_far =
     let made : repeated step (count - i) s bytes ≡ repeated step (count - (i + 1)) t rest = rw (k, one) refl in
     sym made ∙ so_far
 
-pub turn_fails : {S : Type 0} (step : Step S) (e : DescError) (count i : ℕ) (s : S) (bytes : List ℕ) (whole : Result (S × List ℕ) ℕ) → i < count → Fails e (step s bytes)
+pub turn_fails : {S : Type 0} (step : Step S) (e : FormatError) (count i : ℕ) (s : S) (bytes : List ℕ) (whole : Result (S × List ℕ) ℕ) → i < count → Fails e (step s bytes)
     → repeated step (count - i) s bytes ≡ whole → Fails e whole
 unfolding repeated
 turn_fails step errors.NoMemory count i s bytes whole lt one so_far = tt
@@ -46,12 +47,12 @@ turns_keep step Keeps over (suc n) s bytes x kept e =
 
 -- ---- a step of a list
 
-fails_on : {A B : Type 0} (e : DescError) (r : Result A ℕ) (f : A → Result B ℕ) → Fails e r → Fails e (r >>= f)
+fails_on : {A B : Type 0} (e : FormatError) (r : Result A ℕ) (f : A → Result B ℕ) → Fails e r → Fails e (r >>= f)
 fails_on errors.NoMemory r f h = tt
 fails_on (errors.Bad at) (Ok x) f h = absurd cc
 fails_on (errors.Bad at) (Err d) f h = let same : d ≡ at = cc in ap (λ (n : ℕ). Err n) same
 
-pub next_fails : {A : Type 0} (read : List A → Result (A × List ℕ) ℕ) (e : DescError) (seen before : List A) → seen ≡ before → Fails e (read seen) → Fails e (read before >>= behind before)
+pub next_fails : {A : Type 0} (read : List A → Result (A × List ℕ) ℕ) (e : FormatError) (seen before : List A) → seen ≡ before → Fails e (read seen) → Fails e (read before >>= behind before)
 next_fails read e seen before same h = fails_on e (read before) (behind before) (subst (λ (xs : List _). Fails e (read xs)) same h)
 
 pub next_ok : {A : Type 0} (read : List A → Result (A × List ℕ) ℕ) (seen before items : List A) (x : A) (rest : List ℕ) → seen ≡ before → read seen ≡ Ok (x, rest) → items ≡ before ++ x ∷ [] → (read before >>= behind before) ≡ Ok (items, rest)
@@ -59,7 +60,7 @@ next_ok read seen before items x rest same one more =
     let here : read before ≡ Ok (x, rest) = subst (λ (xs : List _). read xs ≡ Ok (x, rest)) same one in
     rw here (ap (λ (xs : List _). Ok (xs, rest)) (sym more))
 
-pub version_fails : (total : ℕ) (e : DescError) (v : SchemaVersions) (s : SchemaShape) (bytes : List ℕ) → s ≡ newest v → Fails e (change_at s total bytes) → Fails e (next_change total v bytes)
+pub version_fails : (total : ℕ) (e : FormatError) (v : SchemaVersions) (s : SchemaShape) (bytes : List ℕ) → s ≡ newest v → Fails e (change_at s total bytes) → Fails e (next_change total v bytes)
 version_fails total e v s bytes same h = fails_on e (change_at (newest v) total bytes) (with_change v) (subst (λ (t : SchemaShape). Fails e (change_at t total bytes)) same h)
 
 pub version_ok : (total : ℕ) (v w : SchemaVersions) (s : SchemaShape) (bytes : List ℕ) (change : Change) (rest : List ℕ) → s ≡ newest v → change_at s total bytes ≡ Ok (change, rest) → w ≡ record { first = v.first; changes = v.changes ++ change ∷ [] } → next_change total v bytes ≡ Ok (w, rest)

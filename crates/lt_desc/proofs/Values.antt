@@ -15,8 +15,10 @@ use Rattle.lt_schema.specs.Values.{is_of_kind}
 use Rattle.lt_schema.specs.Lawful.{is_short}
 use Rattle.lt_desc.specs.Lawful.{is_word, fits_value}
 use Rattle.lt_desc.specs.Spelling.{counted, kind_byte, value_spelled}
-use Rattle.lt_desc.specs.Reading.{◌>>=◌, place, asked, or_fault, byte_at, number_at, counted_at, kind_of, kind_at, int_as, text_as, blob_as, value_at}
-use Rattle.lt_desc.proofs.Taken.{IsBytes, bind_ok, ok_is, asked_ok, asked_again, or_fault_ok, Takes, Takes-as, byte_takes, takes32, takes64, again32, again64, counted_takes, counted_again}
+use Rattle.lt_rec.specs.Reading.{◌>>=◌, place, asked, or_fault}
+use Rattle.lt_desc.specs.Reading.{byte_from, number_from, counted_at, kind_of, kind_at, int_as, text_as, blob_as, value_at}
+use Rattle.lt_rec.proofs.Reading.{IsBytes, bind_ok, ok_is, asked_ok, asked_again, or_fault_ok, Takes, Takes-as, byte_takes}
+use Rattle.lt_desc.proofs.Taken.{takes32, takes64, again32, again64, counted_takes, counted_again}
 
 -- ---- kinds
 
@@ -39,9 +41,9 @@ KindText bytes x = Takes bytes (kind_byte x.0 ∷ []) x.1
 pub kind_takes : (total : ℕ) (bytes : List ℕ) (x : Kind × List ℕ) → IsBytes bytes → kind_at total bytes ≡ Ok x → KindText bytes x
 unfolding kind_at
 kind_takes total bytes x fits e =
-    let a = bind_ok (byte_at total bytes) (λ b. or_fault (kind_of b.0) (place total bytes) >>= λ kind. Ok (kind, b.1)) x e in
+    let a = bind_ok (byte_from total bytes) (λ b. or_fault (kind_of b.0) (place total bytes) >>= λ kind. Ok (kind, b.1)) x e in
     let b = bind_ok (or_fault (kind_of a.0.0) (place total bytes)) (λ kind. Ok (kind, a.0.1)) x a.2 in
-    let t = byte_takes total bytes a.0 fits a.1 in
+    let t = byte_takes (place total bytes) bytes a.0 fits a.1 in
     let same = kind_is a.0.0 b.0 (or_fault_ok (kind_of a.0.0) (place total bytes) b.0 b.1) in
     subst (KindText bytes) (ok_is (b.0, a.0.1) x b.2) (Takes-as bytes (a.0.0 ∷ []) (kind_byte b.0 ∷ []) a.0.1 (ap (λ (n : ℕ). n ∷ []) same) t)
 
@@ -94,18 +96,18 @@ word_bits (negsuc n) is = omega arith
 abbrev ValueText : Kind → List ℕ → Value × List ℕ → Type 0
 ValueText kind bytes x = Takes bytes (value_spelled kind x.0) x.1 × (fits_value x.0 ≡ true)
 
-narrow_value : (total : ℕ) (bytes : List ℕ) (x : Value × List ℕ) → IsBytes bytes → number_at w32 total bytes >>= int_as w32 ≡ Ok x → ValueText Int32 bytes x
+narrow_value : (total : ℕ) (bytes : List ℕ) (x : Value × List ℕ) → IsBytes bytes → number_from w32 total bytes >>= int_as w32 ≡ Ok x → ValueText Int32 bytes x
 unfolding value_spelled
 narrow_value total bytes x fits e =
-    let a = bind_ok (number_at w32 total bytes) (int_as w32) x e in
+    let a = bind_ok (number_from w32 total bytes) (int_as w32) x e in
     let n = takes32 total bytes a.0 fits a.1 in
     let back : cast_unsigned w32 (cast_signed w32 a.0.0) ≡ a.0.0 = of_z-to_z w32 a.0.0 n.1 in
     subst (ValueText Int32 bytes) (ok_is (Int (cast_signed w32 a.0.0), a.0.1) x a.2)
     (Takes-as bytes (to_be_bytes w32 a.0.0) (to_be_bytes w32 (cast_unsigned w32 (cast_signed w32 a.0.0))) a.0.1 (ap (to_be_bytes w32) (sym back)) n.0, narrow_word a.0.0 n.1)
 
-whole_value : (kind : Kind) (total : ℕ) (bytes : List ℕ) (x : Value × List ℕ) → ((n : ℕ) → value_spelled kind (Int (cast_signed w64 n)) ≡ to_be_bytes w64 (cast_unsigned w64 (cast_signed w64 n))) → IsBytes bytes → number_at w64 total bytes >>= int_as w64 ≡ Ok x → ValueText kind bytes x
+whole_value : (kind : Kind) (total : ℕ) (bytes : List ℕ) (x : Value × List ℕ) → ((n : ℕ) → value_spelled kind (Int (cast_signed w64 n)) ≡ to_be_bytes w64 (cast_unsigned w64 (cast_signed w64 n))) → IsBytes bytes → number_from w64 total bytes >>= int_as w64 ≡ Ok x → ValueText kind bytes x
 whole_value kind total bytes x form fits e =
-    let a = bind_ok (number_at w64 total bytes) (int_as w64) x e in
+    let a = bind_ok (number_from w64 total bytes) (int_as w64) x e in
     let n = takes64 total bytes a.0 fits a.1 in
     let back : cast_unsigned w64 (cast_signed w64 a.0.0) ≡ a.0.0 = of_z-to_z w64 a.0.0 n.1 in
     subst (ValueText kind bytes) (ok_is (Int (cast_signed w64 a.0.0), a.0.1) x a.2)

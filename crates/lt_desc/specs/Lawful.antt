@@ -37,7 +37,7 @@ rises [] = true
 rises (t ∷ tablets) = leads t tablets && rises tablets
 
 -- an entry of the list
-pub record IsListed (upto next_file : ℕ) (t : Listed) : Type 0 where
+pub record IsListed (kept next_file : ℕ) (t : Listed) : Type 0 where
   pub file : t.file < next_file
   pub rows : 1 ≤ t.rows
   pub times : t.low ≤ t.high
@@ -46,16 +46,16 @@ pub record IsListed (upto next_file : ℕ) (t : Listed) : Type 0 where
   pub begins_in : InPeriod t.period t.low
   pub ends_in : InPeriod t.period t.high
   pub numbers : t.first ≤ t.last
-  pub settled : t.last < upto
+  pub settled : t.last < kept
 
 pub record IsStone (s : StoneShape) : Type 0 where
-  pub upto : s.upto ≤ 2 ^ 62
+  pub kept : s.kept ≤ 2 ^ 62
   pub low : s.low < 2 ^ 62
   pub ttl : IfSome s.ttl (λ t. (1 ≤ t) × (t < 2 ^ 62))
   pub next_file : s.next_file ≤ 2 ^ 62
   pub schemas : IsTrue (is_versions s.schemas)
   pub few : length s.tablets < 2 ^ 32
-  pub tablets : AllByRecursion (IsListed s.upto s.next_file) s.tablets
+  pub tablets : AllByRecursion (IsListed s.kept s.next_file) s.tablets
   pub rising : IsTrue (rises s.tablets)
   pub once : IsTrue (files_differ s.tablets)
 

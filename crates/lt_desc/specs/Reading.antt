@@ -6,6 +6,7 @@ use Rattle.std.specs.Int.{Width, w32, w64, byte_len, from_be_bytes, cast_signed}
 use Rattle.std.specs.Str.{is_utf8}
 use Rattle.std.specs.Cmp.Lexicographic.{pointwise}
 use Rattle.lt_rec.specs.Periods.{is_period_len}
+use Rattle.lt_rec.specs.Reading.{◌>>=◌, place, byte_at, number_at, bytes_at, holds, asked, or_fault, is_within}
 use Rattle.lt_rec.specs.declared.listed.Listed.{Listed}
 use Rattle.lt_schema.specs.declared.kind.Kind.{Kind}
 use Rattle.lt_schema.specs.declared.kind.Kind.TheVariants.{Int32, Int64, Time, Text as TextKind, Blob as BlobKind}
@@ -24,69 +25,23 @@ use Rattle.lt_desc.specs.Spelling.{mark}
 use Rattle.lt_desc.specs.declared.head.Head.{Head}
 use Rattle.lt_desc.specs.declared.listing.Sizes.{Sizes}
 use Rattle.lt_desc.specs.declared.listing.Times.{Times}
-use Rattle.lt_desc.specs.declared.fault.Fault.{Fault}
-use Rattle.lt_desc.specs.declared.fault.DescError.{DescError}
-use Rattle.lt_desc.specs.declared.fault.DescError.TheVariants as errors
-
-infixl 10 ◌>>=◌
-abbrev pub ◌>>=◌ : {A B : Type 0} → Result A ℕ → (A → Result B ℕ) → Result B ℕ
-(Ok x) >>= f = f x
-(Err at) >>= f = Err at
-
--- what a call returned, seen by `view`, is what reading gives, unless memory ran out
-abbrev pub Fails : {Y : Type 0} → DescError → Result Y ℕ → Type 0
-Fails errors.NoMemory read = Unit {0}
-Fails (errors.Bad at) read = read ≡ Err at
-
-abbrev pub Gives : {X Y : Type 0} → (X → Y) → Result X DescError → Result Y ℕ → Type 0
-Gives view (Ok x) read = read ≡ Ok (view x)
-Gives view (Err e) read = Fails e read
-
--- the same, for what takes no memory
-abbrev pub Reads : {X Y : Type 0} → (X → Y) → Result X Fault → Result Y ℕ → Type 0
-Reads view (Ok x) read = read ≡ Ok (view x)
-Reads view (Err fault) read = read ≡ Err fault.at
 
 -- ---- fields
 
--- where the bytes begin that are left of so many
-abbrev pub place : ℕ → List ℕ → ℕ
-place total bytes = total - length bytes
+-- A field of what is left of so many bytes. Where the bytes end in it, it is named.
+abbrev pub byte_from : ℕ → List ℕ → Result (ℕ × List ℕ) ℕ
+byte_from total bytes = byte_at (place total bytes) bytes
 
--- what holds; else the offset is named
-abbrev pub holds : Bool → ℕ → Result (Unit {0}) ℕ
-holds test at = if test then Ok tt else Err at
-
--- a field that passes its test; else the offset is named
-abbrev pub asked : {A : Type 0} → (A → Bool) → ℕ → Result (A × List ℕ) ℕ → Result (A × List ℕ) ℕ
-asked test at (Ok x) = if test x.0 then Ok x else Err at
-asked test at (Err e) = Err e
-
-abbrev pub or_fault : {A : Type 0} → Option A → ℕ → Result A ℕ
-or_fault None at = Err at
-or_fault (Some x) at = Ok x
-
--- A field is a value and the bytes after it. Where the bytes end in it, it is named.
-abbrev pub byte_at : ℕ → List ℕ → Result (ℕ × List ℕ) ℕ
-byte_at total [] = Err total
-byte_at total (b ∷ bytes) = Ok (b, bytes)
-
-abbrev pub number_at : Width → ℕ → List ℕ → Result (ℕ × List ℕ) ℕ
-number_at w total bytes = if nat_lt (length bytes) (byte_len w) then Err (place total bytes) else Ok (from_be_bytes w (take (byte_len w) bytes), drop (byte_len w) bytes)
-
-abbrev pub bytes_at : ℕ → ℕ → List ℕ → Result (List ℕ × List ℕ) ℕ
-bytes_at n at bytes = if nat_lt (length bytes) n then Err at else Ok (take n bytes, drop n bytes)
+abbrev pub number_from : Width → ℕ → List ℕ → Result (ℕ × List ℕ) ℕ
+number_from w total bytes = number_at w (place total bytes) bytes
 
 -- a length and the bytes behind it are one field
 unfoldable pub counted_at : ℕ → List ℕ → Result (List ℕ × List ℕ) ℕ
-counted_at total bytes = number_at w32 total bytes >>= λ n. bytes_at n.0 (place total bytes) n.1
+counted_at total bytes = number_from w32 total bytes >>= λ n. bytes_at n.0 (place total bytes) n.1
 
 -- a number that passes its test
 abbrev pub number_where : Width → (ℕ → Bool) → ℕ → List ℕ → Result (ℕ × List ℕ) ℕ
-number_where w test total bytes = asked test (place total bytes) (number_at w total bytes)
-
-abbrev pub is_within : ℕ → ℕ → ℕ → Bool
-is_within least most n = nat_le least n && nat_le n most
+number_where w test total bytes = asked test (place total bytes) (number_from w total bytes)
 
 -- so many steps, each from what the one before left
 unfoldable pub repeated : {S : Type 0} → (S → List ℕ → Result (S × List ℕ) ℕ) → ℕ → S → List ℕ → Result (S × List ℕ) ℕ
@@ -106,19 +61,19 @@ abbrev pub some_at : ℕ × List ℕ → Result (Option ℕ × List ℕ) ℕ
 some_at x = Ok (Some x.0, x.1)
 
 -- the flag, and the time to live exactly where it is 1
-unfoldable pub life_at : ℕ → List ℕ → Result (Option ℕ × List ℕ) ℕ
-life_at total bytes = do
-  flag ← asked (is_within 0 1) (place total bytes) (byte_at total bytes)
+unfoldable pub ttl_at : ℕ → List ℕ → Result (Option ℕ × List ℕ) ℕ
+ttl_at total bytes = do
+  flag ← asked (is_within 0 1) (place total bytes) (byte_from total bytes)
   if flag.0 == 0 then Ok (None, flag.1) else (number_where w64 (is_within 1 (2 ^ 62 - 1)) total flag.1 >>= some_at)
 
 unfoldable pub head_at : ℕ → List ℕ → Result (Head × List ℕ) ℕ
 head_at total bytes = do
   marked ← mark_at total bytes
-  upto ← number_where w64 (is_within 0 (2 ^ 62)) total marked.1
-  low ← number_where w64 (is_within 0 (2 ^ 62 - 1)) total upto.1
-  ttl ← life_at total low.1
+  kept ← number_where w64 (is_within 0 (2 ^ 62)) total marked.1
+  low ← number_where w64 (is_within 0 (2 ^ 62 - 1)) total kept.1
+  ttl ← ttl_at total low.1
   next_file ← number_where w64 (is_within 0 (2 ^ 62)) total ttl.1
-  Ok (record { upto = upto.0; low = low.0; ttl = ttl.0; next_file = next_file.0 }, next_file.1)
+  Ok (record { kept = kept.0; low = low.0; ttl = ttl.0; next_file = next_file.0 }, next_file.1)
 
 -- ---- columns
 
@@ -128,7 +83,7 @@ kind_of b =
 
 unfoldable pub kind_at : ℕ → List ℕ → Result (Kind × List ℕ) ℕ
 kind_at total bytes = do
-  b ← byte_at total bytes
+  b ← byte_from total bytes
   kind ← or_fault (kind_of b.0) (place total bytes)
   Ok (kind, b.1)
 
@@ -143,9 +98,9 @@ blob_as x = Ok (Blob x.0, x.1)
 
 -- a value of a kind's form; a text is UTF-8
 unfoldable pub value_at : Kind → ℕ → List ℕ → Result (Value × List ℕ) ℕ
-value_at Int32 total bytes = number_at w32 total bytes >>= int_as w32
-value_at Int64 total bytes = number_at w64 total bytes >>= int_as w64
-value_at Time total bytes = number_at w64 total bytes >>= int_as w64
+value_at Int32 total bytes = number_from w32 total bytes >>= int_as w32
+value_at Int64 total bytes = number_from w64 total bytes >>= int_as w64
+value_at Time total bytes = number_from w64 total bytes >>= int_as w64
 value_at TextKind total bytes = asked is_utf8 (place total bytes) (counted_at total bytes) >>= text_as
 value_at BlobKind total bytes = counted_at total bytes >>= blob_as
 
@@ -194,14 +149,14 @@ narrow_name (Some column) = if is_int32_kind column.kind then Some column.name e
 -- the column of this number is there and has 32 bits
 unfoldable pub widen_at : (tag : ℕ) → SchemaShape → (total : ℕ) (bytes : List ℕ) → Result (Change × List ℕ) ℕ
 widen_at tag schema total bytes = do
-  n ← number_at w32 total bytes
+  n ← number_from w32 total bytes
   name ← or_fault (narrow_name (slice_get schema.columns n.0)) tag
   Ok (Widen name, n.1)
 
 -- a change that the schema admits
 unfoldable pub change_at : SchemaShape → (total : ℕ) (bytes : List ℕ) → Result (Change × List ℕ) ℕ
 change_at schema total bytes = do
-  tag ← asked (is_within 0 1) (place total bytes) (byte_at total bytes)
+  tag ← asked (is_within 0 1) (place total bytes) (byte_from total bytes)
   if tag.0 == 0 then append_at (place total bytes) schema total tag.1 else widen_at (place total bytes) schema total tag.1
 
 abbrev pub with_change : SchemaVersions → Change × List ℕ → Result (SchemaVersions × List ℕ) ℕ
@@ -239,13 +194,13 @@ unfoldable pub sizes_at : (next_file : ℕ) (before : List Listed) (total : ℕ)
 sizes_at next_file before total bytes = do
   file ← number_where w64 (λ n. nat_lt n next_file && not (lists_file before n)) total bytes
   rows ← number_where w64 (nat_lt 0) total file.1
-  size ← number_at w64 total rows.1
+  size ← number_from w64 total rows.1
   Ok (record { file = file.0; rows = rows.0; bytes = size.0 }, size.1)
 
 -- the start of a period that has both moments, and its length, in which a rule over these is broken
 unfoldable pub stretch_at : (low high total : ℕ) (bytes : List ℕ) → Result ((ℕ × ℕ) × List ℕ) ℕ
 stretch_at low high total bytes = do
-  start ← number_at w64 total bytes
+  start ← number_from w64 total bytes
   len ← number_where w64 (spans start.0 low high) total start.1
   Ok ((start.0, len.0), len.1)
 
@@ -258,33 +213,33 @@ times_at file before total bytes = do
   Ok (record { low = low.0; high = high.0; start = stretch.0.0; len = stretch.0.1 }, stretch.1)
 
 -- the least number, and the greatest, in which a rule over both is broken
-unfoldable pub span_at : (upto total : ℕ) (bytes : List ℕ) → Result ((ℕ × ℕ) × List ℕ) ℕ
-span_at upto total bytes = do
-  first ← number_at w64 total bytes
-  last ← number_where w64 (λ n. nat_le first.0 n && nat_lt n upto) total first.1
+unfoldable pub span_at : (kept total : ℕ) (bytes : List ℕ) → Result ((ℕ × ℕ) × List ℕ) ℕ
+span_at kept total bytes = do
+  first ← number_from w64 total bytes
+  last ← number_where w64 (λ n. nat_le first.0 n && nat_lt n kept) total first.1
   Ok ((first.0, last.0), last.1)
 
 abbrev pub listed_of : Sizes → Times → ℕ × ℕ → Listed
 listed_of sizes times span = record { file = sizes.file; rows = sizes.rows; bytes = sizes.bytes; low = times.low; high = times.high; period = record { start = times.start; len = times.len }; first = span.0; last = span.1 }
 
 -- a tablet behind others
-unfoldable pub tablet_at : (upto next_file : ℕ) (before : List Listed) (total : ℕ) (bytes : List ℕ) → Result (Listed × List ℕ) ℕ
-tablet_at upto next_file before total bytes = do
+unfoldable pub tablet_at : (kept next_file : ℕ) (before : List Listed) (total : ℕ) (bytes : List ℕ) → Result (Listed × List ℕ) ℕ
+tablet_at kept next_file before total bytes = do
   sizes ← sizes_at next_file before total bytes
   times ← times_at sizes.0.file before total sizes.1
-  span ← span_at upto total times.1
+  span ← span_at kept total times.1
   Ok (listed_of sizes.0 times.0 span.0, span.1)
 
-abbrev pub next_tablet : (upto next_file total : ℕ) → List Listed → List ℕ → Result (List Listed × List ℕ) ℕ
-next_tablet upto next_file total before bytes = tablet_at upto next_file before total bytes >>= behind before
+abbrev pub next_tablet : (kept next_file total : ℕ) → List Listed → List ℕ → Result (List Listed × List ℕ) ℕ
+next_tablet kept next_file total before bytes = tablet_at kept next_file before total bytes >>= behind before
 
 -- ---- all of it
 
 -- the tablets, behind which nothing follows; else the first byte too many is named
-unfoldable pub listing_at : (upto next_file total : ℕ) (bytes : List ℕ) → Result (List Listed) ℕ
-listing_at upto next_file total bytes = do
-  count ← number_at w32 total bytes
-  tablets ← repeated (next_tablet upto next_file total) count.0 [] count.1
+unfoldable pub listing_at : (kept next_file total : ℕ) (bytes : List ℕ) → Result (List Listed) ℕ
+listing_at kept next_file total bytes = do
+  count ← number_from w32 total bytes
+  tablets ← repeated (next_tablet kept next_file total) count.0 [] count.1
   ended ← holds (length tablets.1 == 0) (place total tablets.1)
   Ok tablets.0
 
@@ -293,5 +248,5 @@ unfoldable pub stone_at : List ℕ → Result StoneShape ℕ
 stone_at bytes = do
   head ← head_at (length bytes) bytes
   schemas ← schemas_at (length bytes) head.1
-  tablets ← listing_at head.0.upto head.0.next_file (length bytes) schemas.1
-  Ok (record { upto = head.0.upto; low = head.0.low; ttl = head.0.ttl; next_file = head.0.next_file; schemas = schemas.0; tablets = tablets })
+  tablets ← listing_at head.0.kept head.0.next_file (length bytes) schemas.1
+  Ok (record { kept = head.0.kept; low = head.0.low; ttl = head.0.ttl; next_file = head.0.next_file; schemas = schemas.0; tablets = tablets })

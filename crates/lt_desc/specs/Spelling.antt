@@ -81,19 +81,19 @@ tablet_spelled t = numbers (entry_numbers t)
 -- ---- all of it
 
 -- whether there is a time to live, and what it is
-unfoldable pub life_spelled : Option ℕ → List ℕ
-life_spelled None = 0 ∷ []
-life_spelled (Some ttl) = 1 ∷ to_be_bytes w64 ttl
+unfoldable pub ttl_spelled : Option ℕ → List ℕ
+ttl_spelled None = 0 ∷ []
+ttl_spelled (Some ttl) = 1 ∷ to_be_bytes w64 ttl
 
 unfoldable pub head_spelled : Head → List ℕ
-head_spelled h = mark ++ (to_be_bytes w64 h.upto ++ (to_be_bytes w64 h.low ++ (life_spelled h.ttl ++ to_be_bytes w64 h.next_file)))
+head_spelled h = mark ++ (to_be_bytes w64 h.kept ++ (to_be_bytes w64 h.low ++ (ttl_spelled h.ttl ++ to_be_bytes w64 h.next_file)))
 
 -- how many tablets there are, and each of them
 unfoldable pub listing_spelled : List Listed → List ℕ
 listing_spelled tablets = to_be_bytes w32 (length tablets) ++ flat_map tablet_spelled tablets
 
 abbrev pub head_of : StoneShape → Head
-head_of s = record { upto = s.upto; low = s.low; ttl = s.ttl; next_file = s.next_file }
+head_of s = record { kept = s.kept; low = s.low; ttl = s.ttl; next_file = s.next_file }
 
 unfoldable pub spelling : StoneShape → List ℕ
 spelling s = head_spelled (head_of s) ++ (schemas_spelled s.schemas ++ listing_spelled s.tablets)

@@ -1,9 +1,10 @@
 //! The first schema and its changes.
-ghost use Rattle.lt_desc.specs.Reading.{Gives, append_at, widen_at, change_at, repeated, next_change, first_at, schemas_at};
+ghost use Rattle.lt_rec.specs.Reading.{Gives};
+ghost use Rattle.lt_desc.specs.Reading.{append_at, widen_at, change_at, repeated, next_change, first_at, schemas_at};
 
 use crate::columns::{column_of, columns_of};
-use crate::fault::DescError;
-use crate::fields::{byte_at, holds, place, u32_at, u32_within};
+use crate::fields::{byte_from, u32_from, u32_within};
+use lt_rec::{FormatError, place_of, test_at};
 use lt_schema::{Change, Columns, Kind, Schema, Schemas};
 use std::alloc::Global;
 
@@ -17,11 +18,11 @@ fn append_of<'a>(
     schema: &Schema,
     total: u64,
     bytes: &'a [u8],
-) -> Result<(Change, &'a [u8]), DescError>
+) -> Result<(Change, &'a [u8]), FormatError>
     ensures exact { Gives (λ x. (x.0, x.1.now)) result (append_at tag schema.now total bytes.now) }
 {
     let columns = schema.columns().as_slice();
-    holds(columns.len() < Schema::MOST_COLUMNS, tag)?;
+    test_at(columns.len() < Schema::MOST_COLUMNS, tag)?;
     let (column, rest) = column_of(alloc, Some(tag), 0, columns, total, bytes)?;
     Ok((Change::Append(column), rest))
 }
@@ -32,15 +33,15 @@ fn widen_of<'a>(
     schema: &Schema,
     total: u64,
     bytes: &'a [u8],
-) -> Result<(Change, &'a [u8]), DescError>
+) -> Result<(Change, &'a [u8]), FormatError>
     ensures exact { Gives (λ x. (x.0, x.1.now)) result (widen_at tag schema.now total bytes.now) }
 {
-    let (number, rest) = u32_at(total, bytes)?;
+    let (number, rest) = u32_from(total, bytes)?;
     match schema.columns().as_slice().get(number as usize) {
         Some(column) if column.kind() == Kind::Int32 => {
             Ok((Change::Widen(column.name().clone()?), rest))
         }
-        _ => Err(DescError::Bad { at: tag }),
+        _ => Err(FormatError::Bad { at: tag }),
     }
 }
 
@@ -51,15 +52,15 @@ fn change_of<'a>(
     schema: &Schema,
     total: u64,
     bytes: &'a [u8],
-) -> Result<(Change, &'a [u8]), DescError>
+) -> Result<(Change, &'a [u8]), FormatError>
     ensures exact { Gives (λ x. (x.0, x.1.now)) result (change_at schema.now total bytes.now) }
 {
-    let (tag, rest) = byte_at(total, bytes)?;
-    holds(tag <= 1, place(total, bytes))?;
+    let (tag, rest) = byte_from(total, bytes)?;
+    test_at(tag <= 1, place_of(total, bytes))?;
     if tag == 0 {
-        append_of(alloc, place(total, bytes), schema, total, rest)
+        append_of(alloc, place_of(total, bytes), schema, total, rest)
     } else {
-        widen_of(place(total, bytes), schema, total, rest)
+        widen_of(place_of(total, bytes), schema, total, rest)
     }
 }
 
@@ -70,7 +71,7 @@ fn changes_of<'a>(
     count: u32,
     total: u64,
     bytes: &'a [u8],
-) -> Result<(Schemas, &'a [u8]), DescError>
+) -> Result<(Schemas, &'a [u8]), FormatError>
     ensures exact { Gives (λ x. (x.0, x.1.now)) result (repeated (next_change total) count schemas bytes.now) }
 {
     let mut schemas = schemas;
@@ -84,7 +85,7 @@ fn changes_of<'a>(
 }
 
 #[tactic(auto, unfolding(crate::specs::Reading::first_at))]
-fn first_of(alloc: Global, total: u64, bytes: &[u8]) -> Result<(Schema, &[u8]), DescError>
+fn first_of(alloc: Global, total: u64, bytes: &[u8]) -> Result<(Schema, &[u8]), FormatError>
     ensures exact { Gives (λ x. (x.0, x.1.now)) result (first_at total bytes.now) }
 {
     let most = Schema::MOST_COLUMNS as u32;
@@ -95,7 +96,7 @@ fn first_of(alloc: Global, total: u64, bytes: &[u8]) -> Result<(Schema, &[u8]), 
 }
 
 #[tactic(auto, unfolding(crate::specs::Reading::schemas_at))]
-pub fn schemas_of(alloc: Global, total: u64, bytes: &[u8]) -> Result<(Schemas, &[u8]), DescError>
+pub fn schemas_of(alloc: Global, total: u64, bytes: &[u8]) -> Result<(Schemas, &[u8]), FormatError>
     ensures exact { Gives (λ x. (x.0, x.1.now)) result (schemas_at total bytes.now) }
 {
     let (first, rest) = first_of(alloc, total, bytes)?;

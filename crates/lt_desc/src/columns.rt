@@ -4,11 +4,11 @@ ghost use Rattle.std.specs.Str.{is_utf8};
 ghost use Rattle.std.specs.List.{list_any};
 ghost use Rattle.lt_schema.specs.Lawful.{has_name};
 ghost use Rattle.lt_schema.specs.Names.{is_name};
-ghost use Rattle.lt_desc.specs.Reading.{Gives, Reads, kind_of, kind_at, value_at, is_new_name, may_be, blamed, column_at, repeated, next_column};
+ghost use Rattle.lt_rec.specs.Reading.{Gives, Reads};
+ghost use Rattle.lt_desc.specs.Reading.{kind_of, kind_at, value_at, is_new_name, may_be, blamed, column_at, repeated, next_column};
 
-use crate::fault::{DescError, Fault};
-use crate::fields::{byte_at, counted_of, holds, place, u32_at, u64_at};
-use lt_rec::{Label, NoMemory, Octets};
+use crate::fields::{byte_from, counted_of, u32_from, u64_from};
+use lt_rec::{Fault, FormatError, Label, NoMemory, Octets, place_of, test_at};
 use lt_schema::{Column, Kind, Value};
 use std::alloc::Global;
 
@@ -29,11 +29,11 @@ fn kind_by(byte: u8) -> Option<Kind>
 fn kind_of(total: u64, bytes: &[u8]) -> Result<(Kind, &[u8]), Fault>
     ensures exact { Reads (λ x. (x.0, x.1.now)) result (kind_at total bytes.now) }
 {
-    let (byte, rest) = byte_at(total, bytes)?;
+    let (byte, rest) = byte_from(total, bytes)?;
     match kind_by(byte) {
         Some(kind) => Ok((kind, rest)),
         None => Err(Fault {
-            at: place(total, bytes),
+            at: place_of(total, bytes),
         }),
     }
 }
@@ -45,21 +45,21 @@ fn value_of(
     kind: Kind,
     total: u64,
     bytes: &[u8],
-) -> Result<(Value, &[u8]), DescError>
+) -> Result<(Value, &[u8]), FormatError>
     ensures exact { Gives (λ x. (x.0, x.1.now)) result (value_at kind total bytes.now) }
 {
     match kind {
         Kind::Int32 => {
-            let (number, rest) = u32_at(total, bytes)?;
+            let (number, rest) = u32_from(total, bytes)?;
             Ok((Value::Int(i64::from(number.cast_signed())), rest))
         }
         Kind::Int64 | Kind::Time => {
-            let (number, rest) = u64_at(total, bytes)?;
+            let (number, rest) = u64_from(total, bytes)?;
             Ok((Value::Int(number.cast_signed()), rest))
         }
         Kind::Text => {
             let (text, rest) = counted_of(total, bytes)?;
-            let text = text_of(alloc, text, place(total, bytes))?;
+            let text = text_of(alloc, text, place_of(total, bytes))?;
             Ok((Value::Text(text), rest))
         }
         Kind::Blob => {
@@ -70,12 +70,12 @@ fn value_of(
 }
 
 /// The text of these bytes, where they are UTF-8.
-fn text_of(alloc: Global, bytes: &[u8], at: u64) -> Result<Label, DescError>
+fn text_of(alloc: Global, bytes: &[u8], at: u64) -> Result<Label, FormatError>
     ensures exact { Gives (λ text. text) result (if is_utf8 bytes.now then Ok bytes.now else Err at) }
 {
     match std::str::from_utf8(bytes) {
         Ok(text) => Ok(Label::copy_of(alloc, text)?),
-        Err(_) => Err(DescError::Bad { at }),
+        Err(_) => Err(FormatError::Bad { at }),
     }
 }
 
@@ -128,20 +128,23 @@ pub fn column_of<'a>(
     before: &[Column],
     total: u64,
     bytes: &'a [u8],
-) -> Result<(Column, &'a [u8]), DescError>
+) -> Result<(Column, &'a [u8]), FormatError>
     requires { length before.now < 2 ^ 32 }
     ensures exact { Gives (λ x. (x.0, x.1.now)) result (column_at tag key_len before.now total bytes.now) }
 {
     let (name, rest) = counted_of(total, bytes)?;
-    holds(is_new_name(before, name), blamed(tag, place(total, bytes)))?;
+    test_at(
+        is_new_name(before, name),
+        blamed(tag, place_of(total, bytes)),
+    )?;
     let name = name_of(alloc, name)?;
     let (kind, after) = kind_of(total, rest)?;
-    holds(may_be(key_len, before, kind), place(total, rest))?;
+    test_at(may_be(key_len, before, kind), place_of(total, rest))?;
     let (default, rest) = value_of(alloc, kind, total, after)?;
     let column = Column::new(name, kind, default);
-    holds(
+    test_at(
         column.has_lawful_default(),
-        blamed(tag, place(total, after)),
+        blamed(tag, place_of(total, after)),
     )?;
     Ok((column, rest))
 }
@@ -153,7 +156,7 @@ pub fn columns_of<'a>(
     count: u32,
     total: u64,
     bytes: &'a [u8],
-) -> Result<(Vec<Column>, &'a [u8]), DescError>
+) -> Result<(Vec<Column>, &'a [u8]), FormatError>
     requires { count ≤ 64 }
     ensures exact { Gives (λ x. (x.0.items, x.1.now)) result (repeated (next_column key_len total) count [] bytes.now) }
 {

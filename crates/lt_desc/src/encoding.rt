@@ -8,8 +8,8 @@ ghost use Rattle.lt_desc.specs.Reading.{stone_at};
 
 use crate::Stone;
 use crate::head::{Head, MARK};
-use crate::spelled::{put_change, put_column, put_life, put_tablet, put_u32, put_u64};
-use lt_rec::{Listed, NoMemory, Octets};
+use crate::spelled::{put_change, put_column, put_tablet, put_ttl};
+use lt_rec::{Listed, NoMemory, Octets, put_u32, put_u64};
 use lt_schema::{Change, Column, Schema, Schemas};
 use std::alloc::Global;
 
@@ -80,9 +80,9 @@ fn put_head(out: &mut Vec<u8>, head: Head) -> Result<(), NoMemory>
     ensures { OnOk result (out.new.items ≡ out.old.items ++ head_spelled head) }
 {
     out.extend_from_slice(&MARK)?;
-    put_u64(out, head.upto)?;
+    put_u64(out, head.kept)?;
     put_u64(out, head.low)?;
-    put_life(out, head.ttl)?;
+    put_ttl(out, head.ttl)?;
     put_u64(out, head.next_file)?;
     Ok(())
 }
@@ -116,7 +116,7 @@ fn spelled(alloc: Global, stone: &Stone) -> Result<Vec<u8>, NoMemory>
     ensures tablets { OnOk result (IsTrue (list_all fits_tablet stone.now.tablets)) }
 {
     let head = Head {
-        upto: stone.upto(),
+        kept: stone.kept(),
         low: stone.low(),
         ttl: stone.ttl(),
         next_file: stone.next_file(),

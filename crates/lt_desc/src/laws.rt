@@ -16,7 +16,7 @@ pub fn descriptor_laws()
 
 /// A stone stays one with later numbers and with other schemas, and without some of its tablets. It does nothing.
 pub fn stones_stay_lawful()
-    ensures later { (s : StoneShape) (upto low next_file : ℕ) (schemas : SchemaVersions) → IsStone s → s.upto ≤ upto → upto ≤ 2 ^ 62 → low < 2 ^ 62 → s.next_file ≤ next_file → next_file ≤ 2 ^ 62 → IsTrue (is_versions schemas)
-        → IsStone (record { upto = upto; low = low; ttl = s.ttl; next_file = next_file; schemas = schemas; tablets = s.tablets }) }
-    ensures fewer { (s : StoneShape) (keep : Tablet → Bool) → IsStone s → IsStone (record { upto = s.upto; low = s.low; ttl = s.ttl; next_file = s.next_file; schemas = s.schemas; tablets = filter keep s.tablets }) }
+    ensures later { (s : StoneShape) (kept low next_file : ℕ) (schemas : SchemaVersions) → IsStone s → s.kept ≤ kept → kept ≤ 2 ^ 62 → low < 2 ^ 62 → s.next_file ≤ next_file → next_file ≤ 2 ^ 62 → IsTrue (is_versions schemas)
+        → IsStone (record { kept = kept; low = low; ttl = s.ttl; next_file = next_file; schemas = schemas; tablets = s.tablets }) }
+    ensures fewer { (s : StoneShape) (keep : Tablet → Bool) → IsStone s → IsStone (record { kept = s.kept; low = s.low; ttl = s.ttl; next_file = s.next_file; schemas = s.schemas; tablets = filter keep s.tablets }) }
 {}

@@ -7,7 +7,6 @@ mod columns;
 mod decoding;
 mod earlier;
 mod encoding;
-mod fault;
 mod fields;
 mod head;
 mod laws;
@@ -18,10 +17,6 @@ mod tablets;
 
 pub use decoding::decode;
 pub use encoding::encode;
-pub use fault::DescError;
 pub use laws::{descriptor_laws, stones_stay_lawful};
 pub use stone::Stone;
 pub use tablets::Tablets;
-
-#[cfg(test)]
-mod tests;

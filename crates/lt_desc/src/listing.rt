@@ -1,13 +1,13 @@
 //! The list of tablets.
 ghost use Rattle.std.specs.Prelude.{◌≡◌, ◌%◌, [], IfOk, IsTrue};
 ghost use Rattle.lt_rec.specs.Periods.{is_period_len};
-ghost use Rattle.lt_desc.specs.Reading.{Gives, Reads, repeated, spans, sizes_at, stretch_at, times_at, span_at, next_tablet, listing_at};
+ghost use Rattle.lt_rec.specs.Reading.{Gives, Reads};
+ghost use Rattle.lt_desc.specs.Reading.{repeated, spans, sizes_at, stretch_at, times_at, span_at, next_tablet, listing_at};
 
 use crate::earlier::Earlier;
-use crate::fault::{DescError, Fault};
-use crate::fields::{holds, place, u32_at, u64_at, u64_within};
+use crate::fields::{u32_from, u64_from, u64_within};
 use crate::stone::Stone;
-use lt_rec::{Listed, Period};
+use lt_rec::{Fault, FormatError, Listed, Period, place_of, test_at};
 use std::alloc::Global;
 
 /// How many bytes an entry has.
@@ -39,14 +39,14 @@ fn sizes_of<'a>(
 ) -> Result<(Sizes, &'a [u8]), Fault>
     ensures exact { Reads (λ x. (x.0, x.1.now)) result (sizes_at next_file before.now total bytes.now) }
 {
-    let (file, rest) = u64_at(total, bytes)?;
-    holds(
+    let (file, rest) = u64_from(total, bytes)?;
+    test_at(
         file < next_file && !before.has_file(file),
-        place(total, bytes),
+        place_of(total, bytes),
     )?;
-    let (rows, after) = u64_at(total, rest)?;
-    holds(0 < rows, place(total, rest))?;
-    let (bytes, rest) = u64_at(total, after)?;
+    let (rows, after) = u64_from(total, rest)?;
+    test_at(0 < rows, place_of(total, rest))?;
+    let (bytes, rest) = u64_from(total, after)?;
     Ok((Sizes { file, rows, bytes }, rest))
 }
 
@@ -63,9 +63,9 @@ fn stretch_of(low: u64, high: u64, total: u64, bytes: &[u8]) -> Result<(u64, u64
     ensures length { IfOk result (λ x. IsTrue (is_period_len x.1)) }
     ensures aligned { IfOk result (λ x. x.0 % x.1 ≡ 0) }
 {
-    let (start, rest) = u64_at(total, bytes)?;
-    let (len, after) = u64_at(total, rest)?;
-    holds(spans(start, low, high, len), place(total, rest))?;
+    let (start, rest) = u64_from(total, bytes)?;
+    let (len, after) = u64_from(total, rest)?;
+    test_at(spans(start, low, high, len), place_of(total, rest))?;
     Ok((start, len, after))
 }
 
@@ -80,10 +80,10 @@ fn times_of<'a>(
     ensures length { IfOk result (λ x. IsTrue (is_period_len x.0.len)) }
     ensures aligned { IfOk result (λ x. x.0.start % x.0.len ≡ 0) }
 {
-    let (low, rest) = u64_at(total, bytes)?;
-    holds(
+    let (low, rest) = u64_from(total, bytes)?;
+    test_at(
         low < Stone::MOST && before.may_add(low, file),
-        place(total, bytes),
+        place_of(total, bytes),
     )?;
     let (high, rest) = u64_within(low, Stone::MOST - 1, total, rest)?;
     let (start, len, rest) = stretch_of(low, high, total, rest)?;
@@ -98,29 +98,29 @@ fn times_of<'a>(
 
 /// The last fields of an entry: its least and greatest numbers.
 #[tactic(auto, unfolding(crate::specs::Reading::span_at))]
-fn span_of(upto: u64, total: u64, bytes: &[u8]) -> Result<(u64, u64, &[u8]), Fault>
-    ensures exact { Reads (λ x. ((x.0, x.1), x.2.now)) result (span_at upto total bytes.now) }
+fn span_of(kept: u64, total: u64, bytes: &[u8]) -> Result<(u64, u64, &[u8]), Fault>
+    ensures exact { Reads (λ x. ((x.0, x.1), x.2.now)) result (span_at kept total bytes.now) }
 {
-    let (first, rest) = u64_at(total, bytes)?;
-    let (last, after) = u64_at(total, rest)?;
-    holds(first <= last && last < upto, place(total, rest))?;
+    let (first, rest) = u64_from(total, bytes)?;
+    let (last, after) = u64_from(total, rest)?;
+    test_at(first <= last && last < kept, place_of(total, rest))?;
     Ok((first, last, after))
 }
 
 /// A tablet behind the others.
 #[tactic(auto, unfolding(crate::specs::Reading::tablet_at))]
 fn add_tablet<'a>(
-    upto: u64,
+    kept: u64,
     next_file: u64,
     before: Earlier,
     total: u64,
     bytes: &'a [u8],
-) -> Result<(Earlier, &'a [u8]), DescError>
-    ensures exact { Gives (λ x. (x.0, x.1.now)) result (next_tablet upto next_file total before bytes.now) }
+) -> Result<(Earlier, &'a [u8]), FormatError>
+    ensures exact { Gives (λ x. (x.0, x.1.now)) result (next_tablet kept next_file total before bytes.now) }
 {
     let (sizes, rest) = sizes_of(next_file, &before, total, bytes)?;
     let (times, rest) = times_of(sizes.file, &before, total, rest)?;
-    let (first, last, rest) = span_of(upto, total, rest)?;
+    let (first, last, rest) = span_of(kept, total, rest)?;
     let tablets = before.with(Listed {
         file: sizes.file,
         rows: sizes.rows,
@@ -137,19 +137,19 @@ fn add_tablet<'a>(
 /// So many tablets. A count may claim more than the bytes can hold.
 fn tablets_of<'a>(
     alloc: Global,
-    upto: u64,
+    kept: u64,
     next_file: u64,
     count: u32,
     total: u64,
     bytes: &'a [u8],
-) -> Result<(Vec<Listed>, &'a [u8]), DescError>
-    ensures exact { Gives (λ x. (x.0.items, x.1.now)) result (repeated (next_tablet upto next_file total) count [] bytes.now) }
+) -> Result<(Vec<Listed>, &'a [u8]), FormatError>
+    ensures exact { Gives (λ x. (x.0.items, x.1.now)) result (repeated (next_tablet kept next_file total) count [] bytes.now) }
 {
     let most = bytes.len() / ENTRY_LEN;
     let mut tablets = Earlier::new(alloc, most.min(count as usize))?;
     let mut rest = bytes;
     for _ in 0..count {
-        let (more, after) = add_tablet(upto, next_file, tablets, total, rest)?;
+        let (more, after) = add_tablet(kept, next_file, tablets, total, rest)?;
         tablets = more;
         rest = after;
     }
@@ -160,15 +160,15 @@ fn tablets_of<'a>(
 #[tactic(auto, unfolding(crate::specs::Reading::listing_at))]
 pub fn listing_of(
     alloc: Global,
-    upto: u64,
+    kept: u64,
     next_file: u64,
     total: u64,
     bytes: &[u8],
-) -> Result<Vec<Listed>, DescError>
-    ensures exact { Gives (λ tablets. tablets.items) result (listing_at upto next_file total bytes.now) }
+) -> Result<Vec<Listed>, FormatError>
+    ensures exact { Gives (λ tablets. tablets.items) result (listing_at kept next_file total bytes.now) }
 {
-    let (count, rest) = u32_at(total, bytes)?;
-    let (tablets, rest) = tablets_of(alloc, upto, next_file, count, total, rest)?;
-    holds(rest.is_empty(), place(total, rest))?;
+    let (count, rest) = u32_from(total, bytes)?;
+    let (tablets, rest) = tablets_of(alloc, kept, next_file, count, total, rest)?;
+    test_at(rest.is_empty(), place_of(total, rest))?;
     Ok(tablets)
 }

@@ -5,9 +5,9 @@ ghost use Rattle.lt_schema.specs.Lawful.{has_lawful_default};
 ghost use Rattle.lt_schema.specs.Versions.{is_admitted};
 ghost use Rattle.lt_schema.specs.Values.{is_of_kind};
 ghost use Rattle.lt_desc.specs.Lawful.{fits_value, fits_column, fits_change, fits_tablet};
-ghost use Rattle.lt_desc.specs.Spelling.{counted, kind_byte, value_spelled, column_spelled, place_of, change_spelled, numbers, tablet_spelled, life_spelled};
+ghost use Rattle.lt_desc.specs.Spelling.{counted, kind_byte, value_spelled, column_spelled, place_of, change_spelled, numbers, tablet_spelled, ttl_spelled};
 
-use lt_rec::{Label, Listed, NoMemory};
+use lt_rec::{Label, Listed, NoMemory, put_u32, put_u64};
 use lt_schema::{Change, Column, Kind, Schema, Value};
 
 /// The bytes behind their length.
@@ -15,7 +15,7 @@ fn put_counted(out: &mut Vec<u8>, bytes: &[u8]) -> Result<(), NoMemory>
     ensures { OnOk result (out.new.items ≡ out.old.items ++ counted bytes.now) }
 {
     let len = u32::try_from(bytes.len()).map_err(|_| NoMemory)?;
-    out.extend_from_slice(&len.to_be_bytes())?;
+    put_u32(out, len)?;
     out.extend_from_slice(bytes)?;
     Ok(())
 }
@@ -40,11 +40,11 @@ fn put_value(out: &mut Vec<u8>, kind: Kind, value: &Value) -> Result<(), NoMemor
 {
     match value {
         Value::Int(number) if kind == Kind::Int32 => {
-            out.extend_from_slice(&(*number as i32).to_be_bytes())?;
+            put_u32(out, (*number as i32).cast_unsigned())?;
             Ok(())
         }
         Value::Int(number) => {
-            out.extend_from_slice(&number.to_be_bytes())?;
+            put_u64(out, number.cast_unsigned())?;
             Ok(())
         }
         Value::Text(text) => {
@@ -99,20 +99,6 @@ pub fn put_change(out: &mut Vec<u8>, schema: &Schema, change: &Change) -> Result
     }
 }
 
-pub fn put_u32(out: &mut Vec<u8>, number: u32) -> Result<(), NoMemory>
-    ensures { OnOk result (out.new.items ≡ out.old.items ++ to_be_bytes w32 number) }
-{
-    out.extend_from_slice(&number.to_be_bytes())?;
-    Ok(())
-}
-
-pub fn put_u64(out: &mut Vec<u8>, number: u64) -> Result<(), NoMemory>
-    ensures { OnOk result (out.new.items ≡ out.old.items ++ to_be_bytes w64 number) }
-{
-    out.extend_from_slice(&number.to_be_bytes())?;
-    Ok(())
-}
-
 fn put_numbers(out: &mut Vec<u8>, list: &[u64]) -> Result<(), NoMemory>
     ensures { OnOk result (out.new.items ≡ out.old.items ++ numbers list.now) }
 {
@@ -144,9 +130,9 @@ pub fn put_tablet(out: &mut Vec<u8>, tablet: &Listed) -> Result<(), NoMemory>
     )
 }
 
-#[tactic(auto, unfolding(crate::specs::Spelling::life_spelled))]
-pub fn put_life(out: &mut Vec<u8>, ttl: Option<u64>) -> Result<(), NoMemory>
-    ensures { OnOk result (out.new.items ≡ out.old.items ++ life_spelled ttl) }
+#[tactic(auto, unfolding(crate::specs::Spelling::ttl_spelled))]
+pub fn put_ttl(out: &mut Vec<u8>, ttl: Option<u64>) -> Result<(), NoMemory>
+    ensures { OnOk result (out.new.items ≡ out.old.items ++ ttl_spelled ttl) }
 {
     match ttl {
         None => {

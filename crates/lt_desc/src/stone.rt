@@ -4,12 +4,12 @@ use lt_schema::Schemas;
 use std::alloc::AllocError;
 use std::marker::Model;
 
-/// What a descriptor says of a table. Rows numbered below `upto` are in the tablets' files, rows older than `low` are gone,
+/// What a descriptor says of a table. Rows numbered below `kept` are in the tablets' files, rows older than `low` are gone,
 /// a time to live is in microseconds, and files from `next_file` on are free. The tablets rise by least timestamp, and then
 /// by file.
 #[derive(Debug, Drop)]
 pub struct Stone {
-    upto: u64,
+    kept: u64,
     low: u64,
     ttl: Option<u64>,
     next_file: u64,
@@ -23,9 +23,9 @@ impl Model for Stone {
 
     ghost Value = { StoneShape };
 
-    ghost view = { λ s. record { upto = s.upto; low = s.low; ttl = s.ttl; next_file = s.next_file; schemas = s.schemas; tablets = s.tablets } };
+    ghost view = { λ s. record { kept = s.kept; low = s.low; ttl = s.ttl; next_file = s.next_file; schemas = s.schemas; tablets = s.tablets } };
 
-    ghost invariant = { λ s. IsStone (record { upto = s.upto; low = s.low; ttl = s.ttl; next_file = s.next_file; schemas = s.schemas; tablets = s.tablets }) };
+    ghost invariant = { λ s. IsStone (record { kept = s.kept; low = s.low; ttl = s.ttl; next_file = s.next_file; schemas = s.schemas; tablets = s.tablets }) };
 }
 
 impl Stone {
@@ -37,18 +37,18 @@ impl Stone {
 
     /// The stone of these parts. Takes no memory.
     pub fn new(
-        upto: u64,
+        kept: u64,
         low: u64,
         ttl: Option<u64>,
         next_file: u64,
         schemas: Schemas,
         tablets: Tablets,
     ) -> Stone
-        requires lawful { IsStone (record { upto = upto; low = low; ttl = ttl; next_file = next_file; schemas = schemas; tablets = tablets }) }
-        ensures parts { result ≡ record { upto = upto; low = low; ttl = ttl; next_file = next_file; schemas = schemas; tablets = tablets } }
+        requires lawful { IsStone (record { kept = kept; low = low; ttl = ttl; next_file = next_file; schemas = schemas; tablets = tablets }) }
+        ensures parts { result ≡ record { kept = kept; low = low; ttl = ttl; next_file = next_file; schemas = schemas; tablets = tablets } }
     {
         Stone {
-            upto,
+            kept,
             low,
             ttl,
             next_file,
@@ -58,11 +58,11 @@ impl Stone {
     }
 
     /// Rows with smaller numbers are settled. Takes no memory.
-    pub fn upto(&self) -> u64
-        ensures value { result ≡ self.now.upto }
+    pub fn kept(&self) -> u64
+        ensures value { result ≡ self.now.kept }
         ensures lawful { IsStone self.now }
     {
-        self.upto
+        self.kept
     }
 
     /// Rows with smaller timestamps are gone. Takes no memory.
@@ -131,7 +131,7 @@ impl Clone for Stone {
 
     fn clone(&self) -> Result<Stone, AllocError> {
         Ok(Stone {
-            upto: self.upto,
+            kept: self.kept,
             low: self.low,
             ttl: self.ttl,
             next_file: self.next_file,

@@ -1,4 +1,3 @@
 pub mod Chains
 pub mod Moments
-mod OldOrWhole
 mod Pieces

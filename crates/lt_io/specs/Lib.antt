@@ -3,6 +3,5 @@ pub mod Clock
 pub mod Device
 pub mod Directory
 pub mod Memory
-pub mod Replacing
 pub mod Steps
 pub mod Texts

@@ -9,7 +9,6 @@ mod device_error;
 mod enters;
 mod memory;
 mod reading;
-mod replacing;
 mod sink;
 mod source;
 mod std_io;
@@ -22,11 +21,7 @@ pub use device_error::{DeviceError, Failed};
 pub use enters::Enters;
 pub use memory::{MemSink, MemSource};
 pub use reading::{INPUT_LIMIT, ReadAllError, read_all};
-pub use replacing::replace_descriptor;
 pub use sink::Sink;
 pub use source::Source;
 pub use std_io::{ReaderSource, WriterSink};
 pub use writing::write_all;
-
-#[cfg(test)]
-mod tests;

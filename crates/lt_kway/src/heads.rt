@@ -4,6 +4,7 @@ ghost use Rattle.std.specs.List.Sorted.{IsPermutation};
 ghost use Rattle.lt_kway.specs.Heads.{is_before, NoneHas, Refuses};
 
 use crate::place::place_of;
+use crate::slots::Slots;
 use crate::{Head, HeadError};
 use lt_rec::Rec;
 use std::alloc::Global;
@@ -14,7 +15,7 @@ use std::marker::Model;
 #[derive(Drop)]
 pub struct Heads {
     down: bool,
-    heads: Vec<Head>,
+    heads: Slots,
 }
 
 impl Model for Heads {
@@ -22,9 +23,9 @@ impl Model for Heads {
 
     ghost Value = { Held };
 
-    ghost view = { λ h. record { down = h.down; heads = h.heads.items } };
+    ghost view = { λ h. record { down = h.down; heads = h.heads } };
 
-    ghost invariant = { λ h. AreRanked h.down h.heads.items };
+    ghost invariant = { λ h. AreRanked h.down h.heads };
 }
 
 impl Heads {
@@ -35,7 +36,7 @@ impl Heads {
     {
         Heads {
             down,
-            heads: Vec::new(alloc),
+            heads: Slots::new(alloc),
         }
     }
 
@@ -48,18 +49,15 @@ impl Heads {
         ensures unchanged { OnErr result (self.new ≡ self.old) }
         ensures direction { self.new.down ≡ self.old.down }
     {
-        match place_of(self.heads.as_slice(), rec.key(), self.down) {
+        match place_of(&self.heads, rec.key(), self.down) {
             Ok(place) => {
-                let held = &self.heads[place];
+                let held = self.heads.get(place);
                 let source = held.source;
                 Err((rec, HeadError::Clash { source }))
             }
             Err(place) => match self.heads.insert(place, Head { source, rec }) {
                 Ok(()) => Ok(()),
-                Err(refused) => {
-                    let Head { source: _, rec } = refused.value;
-                    Err((rec, HeadError::NoMemory))
-                }
+                Err(Head { source: _, rec }) => Err((rec, HeadError::NoMemory)),
             },
         }
     }

@@ -4,9 +4,7 @@
 mod head;
 mod heads;
 mod place;
+mod slots;
 
 pub use head::{Head, HeadError};
 pub use heads::Heads;
-
-#[cfg(test)]
-mod tests;

@@ -3,7 +3,7 @@ ghost use Rattle.std.specs.Ordering.{MatchOrdering};
 ghost use Rattle.lt_kway.specs.Heads.{is_before, AreRanked};
 ghost use Rattle.lt_kway.specs.declared.head.Head.{Head as HeadOf};
 
-use crate::Head;
+use crate::slots::Slots;
 use std::cmp::Ordering;
 
 /// `Less` where the key is read before the one that is held, and `Greater` where it is read after it.
@@ -14,7 +14,7 @@ fn order(held: &[u8], key: &[u8], down: bool) -> Ordering
 }
 
 /// Where the head of this key stands, or else where it would.
-pub fn place_of(heads: &[Head], key: &[u8], down: bool) -> Result<usize, usize>
+pub fn place_of(heads: &Slots, key: &[u8], down: bool) -> Result<usize, usize>
     requires ranked { AreRanked down heads.now }
     ensures found { IfOk result (λ place. (place < length heads.now) × ((d : HeadOf) → (slice_index_or heads.now place d).rec.key ≡ key.now)) }
     ensures within { IfErr result (λ place. place ≤ length heads.now) }
@@ -25,7 +25,7 @@ pub fn place_of(heads: &[Head], key: &[u8], down: bool) -> Result<usize, usize>
     let mut high = heads.len();
     while low < high {
         let mid = low + (high - low) / 2;
-        let held = &heads[mid];
+        let held = heads.get(mid);
         match order(held.rec.key(), key, down) {
             Ordering::Less => low = mid + 1,
             Ordering::Equal => return Ok(mid),

@@ -9,11 +9,11 @@ use Rattle.lt_schema.specs.declared.kind.Kind.{Kind}
 use Rattle.lt_schema.specs.declared.value.Value.{Value}
 use Rattle.lt_schema.specs.declared.change.Change.{Change}
 use Rattle.lt_schema.specs.declared.change.Change.TheVariants.{Append, Widen}
-use Rattle.lt_lang.specs.declared.command.Command.{Command}
-use Rattle.lt_lang.specs.declared.command.Command.TheVariants.{Insert, Scan, Latest, Flush, Upkeep, Alter, Tablets}
-use Rattle.lt_lang.specs.declared.command.Line.TheVariants as lines
-use Rattle.lt_lang.specs.declared.query.Edge.{Edge}
-use Rattle.lt_lang.specs.declared.query.Query.{Query}
+use Rattle.lt_command.specs.declared.command.Command.{Command}
+use Rattle.lt_command.specs.declared.command.Command.TheVariants.{Insert, Scan, Latest, Flush, Upkeep, Alter, Tablets}
+use Rattle.lt_command.specs.declared.command.Line.TheVariants as lines
+use Rattle.lt_command.specs.declared.query.Edge.{Edge}
+use Rattle.lt_command.specs.declared.query.Query.{Query}
 use Rattle.lt_lang.specs.Tokens.{is_space, skipped}
 use Rattle.lt_lang.specs.Literals.{AreLits}
 use Rattle.lt_lang.specs.Sentences.{Next, Front, IsClient, IsEdge, IsSomeEdge, IsTimes, IsSomeTimes, IsDirection, IsLimit, IsSomeLimit, IsScan, IsDefault, IsAppend, IsChange, IsRest, command_word, AreTokens, IsSentence, IsSkipped, is_remark, kind_word}

@@ -1,9 +1,9 @@
 -- A line that was read, and all that spells it.
 use Rattle.std.proofs.Common.{◌≡◌, ℕ, List, sym, ◌∙◌, Option}
 use Rattle.std.specs.Prelude.{Result, Ok, Err, IfOk}
-use Rattle.lt_lang.specs.declared.command.Command.{Command}
-use Rattle.lt_lang.specs.declared.command.Line.{Line}
-use Rattle.lt_lang.specs.declared.command.Line.TheVariants as lines
+use Rattle.lt_command.specs.declared.command.Command.{Command}
+use Rattle.lt_command.specs.declared.command.Line.{Line}
+use Rattle.lt_command.specs.declared.command.Line.TheVariants as lines
 use Rattle.lt_lang.specs.Sentences.{IsSentence, IsSkipped, IsSpelled}
 use Rattle.lt_lang.specs.Parsing.{line_at}
 use Rattle.lt_lang.proofs.Answered.{line_at-command, line_at-skip}

@@ -1,5 +1,6 @@
 mod Cutting
 mod Digits
+mod Runs
 mod Taken
 mod Spelled
 mod Utf8
@@ -13,6 +14,7 @@ mod Gaps
 mod Understood
 mod Answered
 mod Spoken
+mod Standing
 mod ScanParts
 mod Wanted
 mod Stopped

@@ -15,6 +15,10 @@ no_value : word_value [] ≡ None
 unfolding word_value after integer_of integer_at unsigned_at count_at
 no_value = refl
 
+pub nothing_here : literal_here [] ≡ None
+unfolding literal_here word_of behind word_value after integer_of integer_at unsigned_at count_at
+nothing_here = refl
+
 skipped-short : (bytes : List ℕ) → length (skipped bytes) ≤ length bytes
 unfolding skipped
 skipped-short bytes = omega (arith, length-drop (prefix_len is_space bytes) bytes)

@@ -5,8 +5,8 @@ use Rattle.std.specs.Prelude.{nat_eq, not, if◌then◌else◌, codes, Result, �
 use Rattle.std.specs.List.{list_all}
 use Rattle.std.specs.Cmp.{first_so, second_so}
 use Rattle.lt_schema.specs.declared.value.Value.{Value}
-use Rattle.lt_lang.specs.declared.query.Edge.{Edge}
-use Rattle.lt_lang.specs.declared.query.Query.{Query}
+use Rattle.lt_command.specs.declared.query.Edge.{Edge}
+use Rattle.lt_command.specs.declared.query.Query.{Query}
 use Rattle.lt_lang.specs.Numbers.{IsCount}
 use Rattle.lt_lang.specs.Reading.{after, integer_at, unsigned_at, count_at}
 use Rattle.lt_lang.specs.Tokens.{is_space, is_quoted, skipped, word_of}

@@ -9,9 +9,11 @@ use Rattle.lt_schema.specs.declared.value.Value.TheVariants.{Int, Text, Blob}
 use Rattle.lt_lang.specs.Numbers.{IsInteger}
 use Rattle.lt_lang.specs.Reading.{after, integer_at, unsigned_at, count_at}
 use Rattle.lt_lang.specs.Tokens.{is_ended, is_quoted}
-use Rattle.lt_lang.specs.Literals.{hex_pair, IsHex, is_bare, IsPiece, IsBody, IsText, IsBlob, IsLit, AreLits}
+use Rattle.lt_lang.specs.Literals.{IsHex, is_bare, IsPiece, IsBody, IsText, IsBlob, IsLit, AreLits}
+use Rattle.lt_hex.specs.Digits.{hex_pair}
 use Rattle.lt_lang.specs.Sentences.{Next, Front}
-use Rattle.lt_lang.specs.Parsing.{hex_byte_at, hexed_at, escape_at, piece_at, onto, quoted_by, quoted_within, quoted_at, text_by, text_behind, hex_of, whole, integer_of, word_value_by, word_value, literal_here, literal_at, literals_by, literals_within, literals_at, value_onto}
+use Rattle.lt_lang.specs.Parsing.{hex_byte_at, hexed_at, escape_at, piece_at, onto, quoted_by, quoted_within, quoted_at, text_by, text_behind, whole, integer_of, word_value_by, word_value, literal_here, literal_at, literals_by, literals_within, literals_at, value_onto}
+use Rattle.lt_hex.specs.Digits.{hex_of}
 use Rattle.lt_lang.proofs.Taken.{after-read, after-only}
 use Rattle.lt_lang.proofs.Utf8.{utf8_of-yes}
 use Rattle.lt_lang.proofs.Pieces.{piece-bare, some_piece}
@@ -107,7 +109,7 @@ int_value token (Some digits) x eq e =
     let spelled = after-read (codes "0x") token digits eq in
     let none : integer_of token ≡ None = ap integer_of spelled ∙ no_integer digits in cc
 
-int_word : (token : List ℕ) (x : ℤ) → IsInteger token x → word_value token ≡ Some (Int x)
+pub int_word : (token : List ℕ) (x : ℤ) → IsInteger token x → word_value token ≡ Some (Int x)
 unfolding word_value
 int_word token x is = int_value token (after (codes "0x") token) x refl (integer_of-only token x is)
 

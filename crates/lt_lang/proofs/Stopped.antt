@@ -10,16 +10,18 @@ use Rattle.lt_schema.specs.declared.value.Value.TheVariants.{Int}
 use Rattle.lt_schema.specs.declared.change.Change.{Change}
 use Rattle.lt_schema.specs.declared.change.Change.TheVariants.{Append, Widen}
 use Rattle.lt_schema.specs.Shapes.{ColumnShape}
-use Rattle.lt_lang.specs.declared.command.Command.{Command}
-use Rattle.lt_lang.specs.declared.command.Command.TheVariants.{Scan, Alter, Tablets}
-use Rattle.lt_lang.specs.declared.command.Line.TheVariants as lines
-use Rattle.lt_lang.specs.declared.query.Edge.{Edge}
-use Rattle.lt_lang.specs.declared.query.Query.{Query}
+use Rattle.lt_command.specs.declared.command.Command.{Command}
+use Rattle.lt_command.specs.declared.command.Command.TheVariants.{Scan, Alter, Tablets}
+use Rattle.lt_command.specs.declared.command.Line.TheVariants as lines
+use Rattle.lt_command.specs.declared.query.Edge.{Edge}
+use Rattle.lt_command.specs.declared.query.Query.{Query}
 use Rattle.lt_lang.specs.Numbers.{IsCount}
 use Rattle.lt_lang.specs.Tokens.{skipped}
 use Rattle.lt_lang.specs.Literals.{IsLit, AreLits}
-use Rattle.lt_lang.specs.Sentences.{Next, Front, IsClient, IsEdge, IsSomeEdge, IsTimes, IsSomeTimes, IsDirection, IsLimit, IsSomeLimit, IsScan, IsAppend, IsChange, IsRest, command_word, AreTokens, Begins, IsBad, is_remark, blank_of}
-use Rattle.lt_lang.specs.Parsing.{◌>>=◌, same, needed, needed_count, maybe_moment, next_word, behind_next, after_word, literals_at, edge_by, edge_after, edge_at, times_after, times_at, direction_at, limit_after, limit_at, query_of, scan_at, needed_name, needed_kind, column_name, kind_of, count_of, append_at, widen_at, change_after, change_at, stopped, said, command_by, command_at, last_command, request_at, client_line, line_by, line_at, client_of}
+use Rattle.lt_lang.specs.Sentences.{Next, Front, IsClient, IsEdge, IsSomeEdge, IsTimes, IsSomeTimes, IsDirection, IsLimit, IsSomeLimit, IsScan, IsAppend, IsChange, IsRest, command_word, AreTokens, Begins, IsBad, is_remark}
+use Rattle.lt_schema.specs.Values.{blank_of}
+use Rattle.lt_lang.specs.Parsing.{◌>>=◌, same, needed, needed_count, maybe_moment, next_word, behind_next, after_word, literals_at, edge_by, edge_after, edge_at, times_after, times_at, direction_at, limit_after, limit_at, query_of, scan_at, needed_name, needed_kind, column_name, count_of, append_at, widen_at, change_after, change_at, stopped, said, command_by, command_at, last_command, request_at, client_line, line_by, line_at, client_of}
+use Rattle.lt_schema.specs.Names.{kind_named}
 use Rattle.lt_lang.proofs.WordForms.{IsStart, same-read, client_of-read, client_of-start}
 use Rattle.lt_lang.proofs.Gaps.{front-append}
 use Rattle.lt_lang.proofs.Understood.{read_ok, next_so, needed_count-read, maybe_moment-read, needed_name-read, after_word-read, literals_at-read}
@@ -60,7 +62,7 @@ name_err bytes left e = needed_err (List ℕ) (column_name (next_word bytes)) by
 
 kind_err : (bytes : List ℕ) (left : ℕ) → needed_kind bytes ≡ read_err (Kind × List ℕ) left → length (skipped bytes) ≡ left
 unfolding needed_kind
-kind_err bytes left e = needed_err Kind (kind_of (next_word bytes)) bytes (behind_next bytes) left e
+kind_err bytes left e = needed_err Kind (kind_named (next_word bytes)) bytes (behind_next bytes) left e
 
 zero_count : IsCount (codes "0") 0
 zero_count = record { digits = refl; some = omega arith; few = omega arith; value = refl }

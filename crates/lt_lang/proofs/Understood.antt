@@ -14,13 +14,16 @@ use Rattle.lt_schema.specs.declared.value.Value.TheVariants.{Int, Text, Blob}
 use Rattle.lt_lang.specs.Numbers.{IsCount}
 use Rattle.lt_lang.specs.Reading.{after, count_at, integer_at, unsigned_at}
 use Rattle.lt_lang.specs.Tokens.{is_space, is_solid, is_ended, skipped, word_of, behind}
-use Rattle.lt_lang.specs.Literals.{hex_pair, IsHex, IsBody, IsText, IsBlob, IsLit, AreLits, IsToken}
+use Rattle.lt_lang.specs.Literals.{IsHex, IsBody, IsText, IsBlob, IsLit, AreLits, IsToken}
+use Rattle.lt_hex.specs.Digits.{hex_pair}
 use Rattle.lt_lang.specs.Sentences.{Next, Front, IsOptional, IsMomentToken, kind_word}
-use Rattle.lt_lang.specs.Parsing.{beside, byte_onto, hex_of, integer_of, word_value_by, word_value, quoted_at, utf8_of, text_by, text_beside, text_behind, literal_here, literal_at, literals_by, literals_within, literals_at, needed, maybe, same, next_word, behind_next, after_word, count_of, moment_of, column_name, kind_of, needed_count, maybe_count, maybe_moment, needed_name, needed_kind}
+use Rattle.lt_lang.specs.Parsing.{beside, integer_of, word_value_by, word_value, quoted_at, utf8_of, text_by, text_beside, text_behind, literal_here, literal_at, literals_by, literals_within, literals_at, needed, maybe, same, next_word, behind_next, after_word, count_of, moment_of, column_name, needed_count, maybe_count, maybe_moment, needed_name, needed_kind}
+use Rattle.lt_schema.specs.Names.{kind_named}
+use Rattle.lt_hex.specs.Digits.{byte_onto, hex_of}
 use Rattle.lt_lang.proofs.Taken.{after-read}
 use Rattle.lt_lang.proofs.Utf8.{utf8_of-read}
 use Rattle.lt_lang.proofs.Pieces.{all_front, TakesBody, quoted-read}
-use Rattle.lt_lang.proofs.WordForms.{IsStart, start_by, same-read, count_of-read, count_of-start, integer_of-read, moment_of-read, moment_of-start, column_name-read, column_name-start, kind_of-read, kind_of-start}
+use Rattle.lt_lang.proofs.WordForms.{IsStart, start_by, same-read, count_of-read, count_of-start, integer_of-read, moment_of-read, moment_of-start, column_name-read, column_name-start, kind_named-read, kind_named-start}
 use Rattle.lt_lang.proofs.Gaps.{drop_ended, word_next}
 
 -- a token of this kind, and the rest
@@ -72,7 +75,7 @@ IsKindWord token kind = token ≡ kind_word kind
 pub needed_kind-read : (bytes : List ℕ) (p : Kind × List ℕ) → needed_kind bytes ≡ Ok p → TakesToken Kind IsKindWord bytes p
 unfolding needed_kind
 needed_kind-read bytes p e =
-    needed-read Kind IsKindWord (kind_of (next_word bytes)) bytes p (λ k f. (kind_of-start (next_word bytes) k f, kind_of-read (next_word bytes) k f)) e
+    needed-read Kind IsKindWord (kind_named (next_word bytes)) bytes p (λ k f. (kind_named-start (next_word bytes) k f, kind_named-read (next_word bytes) k f)) e
 
 maybe-read : (X : Type 0) (Is : List ℕ → X → Type 0) (r : Option X) (bytes : List ℕ) → ((x : X) → r ≡ Some x → IsStart (next_word bytes) × Is (next_word bytes) x)
     → TakesTokens (Option X) (IsOptional {X = X} Is) bytes (maybe r bytes (behind_next bytes))

@@ -10,15 +10,17 @@ use Rattle.lt_schema.specs.declared.value.Value.{Value}
 use Rattle.lt_schema.specs.declared.change.Change.{Change}
 use Rattle.lt_schema.specs.declared.change.Change.TheVariants.{Append, Widen}
 use Rattle.lt_schema.specs.Shapes.{ColumnShape}
-use Rattle.lt_lang.specs.declared.command.Command.{Command}
-use Rattle.lt_lang.specs.declared.command.Command.TheVariants.{Insert, Scan, Latest, Flush, Upkeep, Alter, Tablets}
-use Rattle.lt_lang.specs.declared.command.Line.TheVariants as lines
+use Rattle.lt_command.specs.declared.command.Command.{Command}
+use Rattle.lt_command.specs.declared.command.Command.TheVariants.{Insert, Scan, Latest, Flush, Upkeep, Alter, Tablets}
+use Rattle.lt_command.specs.declared.command.Line.TheVariants as lines
 use Rattle.lt_lang.specs.Numbers.{IsCount}
 use Rattle.lt_lang.specs.Reading.{after, count_at}
 use Rattle.lt_lang.specs.Tokens.{is_space, skipped, word_of}
-use Rattle.lt_lang.specs.Sentences.{Next, Front, IsClient, IsMomentToken, IsOptional, IsDefault, IsChange, IsRest, command_word, IsSentence, IsSkipped, is_remark, blank_of, kind_word}
-use Rattle.lt_lang.specs.Parsing.{needed, maybe, count_of, moment_of, column_name, kind_of, maybe_count, maybe_moment, needed_name, needed_kind, next_word, behind_next, after_word, literal_at, default_by, default_at, column_of, append_at, widen_at, change_after, change_at, said, says, command_by, command_at, last_command, request_at, client_line, line_by, line_at, client_of}
-use Rattle.lt_lang.proofs.WordForms.{count_of-only, count_of-start, moment_of-only, moment_of-start, column_name-only, column_name-start, kind_of-only, kind_of-start, client_of-only, client_of-start}
+use Rattle.lt_lang.specs.Sentences.{Next, Front, IsClient, IsMomentToken, IsOptional, IsDefault, IsChange, IsRest, command_word, IsSentence, IsSkipped, is_remark, kind_word}
+use Rattle.lt_schema.specs.Values.{blank_of}
+use Rattle.lt_lang.specs.Parsing.{needed, maybe, count_of, moment_of, column_name, maybe_count, maybe_moment, needed_name, needed_kind, next_word, behind_next, after_word, literal_at, default_by, default_at, column_of, append_at, widen_at, change_after, change_at, said, says, command_by, command_at, last_command, request_at, client_line, line_by, line_at, client_of}
+use Rattle.lt_schema.specs.Names.{kind_named}
+use Rattle.lt_lang.proofs.WordForms.{count_of-only, count_of-start, moment_of-only, moment_of-start, column_name-only, column_name-start, kind_named-only, kind_named-start, client_of-only, client_of-start}
 use Rattle.lt_lang.proofs.Gaps.{skip_gap, skipped_next, next_is, front-split}
 use Rattle.lt_lang.proofs.Understood.{read_ok}
 use Rattle.lt_lang.proofs.Spoken.{literal_at-only, literals_at-only}
@@ -49,9 +51,9 @@ name_next name bytes rest next is =
 kind_next : (kind : Kind) (bytes rest : List ℕ) → Next (kind_word kind) bytes rest → needed_kind bytes ≡ read_ok (Kind × List ℕ) (kind, rest)
 unfolding needed_kind
 kind_next kind bytes rest next =
-    let found = kind_of-only kind in
-    let seen = next_is (kind_word kind) bytes rest next (kind_of-start (kind_word kind) kind found) in
-    ap (λ w. needed (kind_of w) bytes (behind_next bytes)) seen.0 ∙ ap (λ r. needed r bytes (behind_next bytes)) found ∙ ap (λ (l : List ℕ). read_ok (Kind × List ℕ) (kind, l)) seen.1
+    let found = kind_named-only kind in
+    let seen = next_is (kind_word kind) bytes rest next (kind_named-start (kind_word kind) kind found) in
+    ap (λ w. needed (kind_named w) bytes (behind_next bytes)) seen.0 ∙ ap (λ r. needed r bytes (behind_next bytes)) found ∙ ap (λ (l : List ℕ). read_ok (Kind × List ℕ) (kind, l)) seen.1
 
 append_only : (column : ColumnShape) (tokens : List (List ℕ)) (bytes end : List ℕ) → Front (column.name ∷ kind_word column.kind ∷ tokens) bytes end → is_name column.name ≡ true → IsDefault column.kind tokens column.default
     → list_all is_space end ≡ true → append_at bytes ≡ read_ok (Change × List ℕ) (Append column, end)

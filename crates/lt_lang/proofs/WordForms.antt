@@ -15,7 +15,8 @@ use Rattle.lt_lang.specs.Numbers.{IsCount, IsMoment, IsInteger}
 use Rattle.lt_lang.specs.Reading.{after, count_at, moment_at, integer_at}
 use Rattle.lt_lang.specs.Tokens.{is_quoted}
 use Rattle.lt_lang.specs.Sentences.{IsClient, IsMomentToken, kind_word}
-use Rattle.lt_lang.specs.Parsing.{whole, count_of, integer_of, moment_behind, moment_of, name_by, client_of, same, kind_of, column_name}
+use Rattle.lt_lang.specs.Parsing.{whole, count_of, integer_of, moment_behind, moment_of, name_by, client_of, same, column_name}
+use Rattle.lt_schema.specs.Names.{kind_named}
 use Rattle.lt_lang.proofs.Taken.{Takes, after-read, after-only}
 use Rattle.lt_lang.proofs.Spelled.{count_at-read, count_at-only, moment_at-read, moment_at-only, integer_at-read, integer_at-only}
 use Rattle.lt_lang.proofs.Pieces.{all_front}
@@ -166,23 +167,23 @@ kind_by false word other kind x more P eq e here there = there e
 kind_step : (word other : List ℕ) (kind x : Kind) (more : Option Kind) (P : Type 0) → (if same word other then Some kind else more) ≡ Some x → (word ≡ other → kind ≡ x → P) → (more ≡ Some x → P) → P
 kind_step word other kind x more P e here there = kind_by (same word other) word other kind x more P refl e here there
 
-pub kind_of-read : (word : List ℕ) (kind : Kind) → kind_of word ≡ Some kind → word ≡ kind_word kind
-unfolding kind_of
-kind_of-read word kind e =
+pub kind_named-read : (word : List ℕ) (kind : Kind) → kind_named word ≡ Some kind → word ≡ kind_word kind
+unfolding kind_named
+kind_named-read word kind e =
     kind_step word (codes "int32") Int32 kind _ (word ≡ kind_word kind) e (λ w k. w ∙ ap kind_word k) (λ e2.
     kind_step word (codes "int64") Int64 kind _ (word ≡ kind_word kind) e2 (λ w k. w ∙ ap kind_word k) (λ e3.
     kind_step word (codes "time") Time kind _ (word ≡ kind_word kind) e3 (λ w k. w ∙ ap kind_word k) (λ e4.
     kind_step word (codes "text") TextKind kind _ (word ≡ kind_word kind) e4 (λ w k. w ∙ ap kind_word k) (λ e5.
     kind_step word (codes "blob") BlobKind kind None (word ≡ kind_word kind) e5 (λ w k. w ∙ ap kind_word k) (λ e6. cc)))))
 
-pub kind_of-only : (kind : Kind) → kind_of (kind_word kind) ≡ Some kind
-unfolding kind_of
-kind_of-only Int32 = refl
-kind_of-only Int64 = refl
-kind_of-only Time = refl
-kind_of-only TextKind = refl
-kind_of-only BlobKind = refl
+pub kind_named-only : (kind : Kind) → kind_named (kind_word kind) ≡ Some kind
+unfolding kind_named
+kind_named-only Int32 = refl
+kind_named-only Int64 = refl
+kind_named-only Time = refl
+kind_named-only TextKind = refl
+kind_named-only BlobKind = refl
 
-pub kind_of-start : (word : List ℕ) (kind : Kind) → kind_of word ≡ Some kind → IsStart word
-unfolding kind_of
-kind_of-start word kind e = start_by Kind kind_of word kind e refl (λ ws. refl)
+pub kind_named-start : (word : List ℕ) (kind : Kind) → kind_named word ≡ Some kind → IsStart word
+unfolding kind_named
+kind_named-start word kind e = start_by Kind kind_named word kind e refl (λ ws. refl)

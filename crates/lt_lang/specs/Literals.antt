@@ -1,25 +1,11 @@
 -- How literals are spelled: integers, texts in quotes with escapes, and bytes in hexadecimal digits.
-use Rattle.std.specs.Prelude.{◌≡◌, ◌⊎◌, ℕ, ◌+◌, ◌-◌, ◌*◌, ◌<◌, Bool, true, false, ◌&&◌, ◌==◌, not, nat_le, List, [], ◌∷◌, ◌++◌, Option, Some, None, if◌then◌else◌, codes, ⊤}
+use Rattle.std.specs.Prelude.{◌≡◌, ◌⊎◌, ℕ, ◌<◌, Bool, true, false, ◌&&◌, ◌==◌, not, List, [], ◌∷◌, ◌++◌, Some, codes, ⊤}
 use Rattle.std.specs.Str.{IsUtf8}
 use Rattle.lt_schema.specs.declared.value.Value.{Value}
 use Rattle.lt_schema.specs.declared.value.Value.TheVariants.{Int, Text, Blob}
+use Rattle.lt_hex.specs.Digits.{hex_pair}
 use Rattle.lt_lang.specs.Numbers.{IsInteger}
 use Rattle.lt_lang.specs.Tokens.{IsRun}
-
--- what a hexadecimal digit stands for, in either case
-unfoldable pub hex_value : ℕ → Option ℕ
-hex_value b =
-    if nat_le 48 b && nat_le b 57 then Some (b - 48) else
-    (if nat_le 97 b && nat_le b 102 then Some (b - 87) else
-    (if nat_le 65 b && nat_le b 70 then Some (b - 55) else None))
-
-abbrev pub pair_value : Option ℕ → Option ℕ → Option ℕ
-pair_value (Some high) (Some low) = Some (16 * high + low)
-pair_value _ _ = None
-
--- the byte that two hexadecimal digits spell
-unfoldable pub hex_pair : ℕ → ℕ → Option ℕ
-hex_pair high low = pair_value (hex_value high) (hex_value low)
 
 -- two digits a byte
 abbrev pub IsHex : List ℕ → List ℕ → Type 0

@@ -5,26 +5,27 @@ use Rattle.std.specs.List.{prefix_len}
 use Rattle.std.specs.Option.{option_map}
 use Rattle.std.specs.Str.{is_utf8}
 use Rattle.std.specs.Cmp.Lexicographic.{pointwise}
-use Rattle.lt_schema.specs.Names.{is_name, is_name_byte}
+use Rattle.lt_schema.specs.Names.{is_name, is_name_byte, kind_named}
+use Rattle.lt_schema.specs.Values.{blank_of}
+use Rattle.lt_hex.specs.Digits.{hex_pair, hex_of}
 use Rattle.lt_schema.specs.declared.kind.Kind.{Kind}
-use Rattle.lt_schema.specs.declared.kind.Kind.TheVariants.{Int32, Int64, Time, Text as TextKind, Blob as BlobKind}
 use Rattle.lt_schema.specs.declared.value.Value.{Value}
 use Rattle.lt_schema.specs.declared.value.Value.TheVariants.{Int, Text, Blob}
 use Rattle.lt_schema.specs.declared.change.Change.{Change}
 use Rattle.lt_schema.specs.declared.change.Change.TheVariants.{Append, Widen}
 use Rattle.lt_schema.specs.Shapes.{ColumnShape}
-use Rattle.lt_lang.specs.declared.command.Command.{Command}
-use Rattle.lt_lang.specs.declared.command.Command.TheVariants.{Insert, Scan, Latest, Flush, Upkeep, Alter, Tablets}
-use Rattle.lt_lang.specs.declared.command.Line.{Line}
-use Rattle.lt_lang.specs.declared.command.Line.TheVariants as lines
-use Rattle.lt_lang.specs.declared.query.Edge.{Edge}
-use Rattle.lt_lang.specs.declared.query.Query.{Query}
+use Rattle.lt_command.specs.declared.command.Command.{Command}
+use Rattle.lt_command.specs.declared.command.Command.TheVariants.{Insert, Scan, Latest, Flush, Upkeep, Alter, Tablets}
+use Rattle.lt_command.specs.declared.command.Line.{Line}
+use Rattle.lt_command.specs.declared.command.Line.TheVariants as lines
+use Rattle.lt_command.specs.declared.query.Edge.{Edge}
+use Rattle.lt_command.specs.declared.query.Query.{Query}
 use Rattle.lt_lang.specs.declared.stop.Stop.{Stop}
 use Rattle.lt_lang.specs.declared.stop.Stop.TheVariants as stops
 use Rattle.lt_lang.specs.Reading.{after, count_at, moment_at, integer_at}
 use Rattle.lt_lang.specs.Tokens.{is_ended, is_quoted, skipped, word_of, behind}
-use Rattle.lt_lang.specs.Literals.{hex_pair, is_bare}
-use Rattle.lt_lang.specs.Sentences.{blank_of, is_remark}
+use Rattle.lt_lang.specs.Literals.{is_bare}
+use Rattle.lt_lang.specs.Sentences.{is_remark}
 
 infixl 10 ◌>>=◌
 abbrev pub ◌>>=◌ : {A B : Type 0} → Result A ℕ → (A → Result B ℕ) → Result B ℕ
@@ -67,14 +68,6 @@ client_of word = name_by (prefix_len is_name_byte word) word
 
 abbrev pub same : List ℕ → List ℕ → Bool
 same = pointwise nat_eq
-
-unfoldable pub kind_of : List ℕ → Option Kind
-kind_of word =
-    if same word (codes "int32") then Some Int32 else
-    (if same word (codes "int64") then Some Int64 else
-    (if same word (codes "time") then Some Time else
-    (if same word (codes "text") then Some TextKind else
-    (if same word (codes "blob") then Some BlobKind else None))))
 
 abbrev pub beside : {A : Type 0} → List ℕ → Option A → Option (A × List ℕ)
 beside rest None = None
@@ -138,16 +131,6 @@ text_by (Some p) = if is_ended p.1 then text_beside p.1 (utf8_of p.0) else None
 -- a text behind its opening quote
 unfoldable pub text_behind : List ℕ → Option (Value × List ℕ)
 text_behind bytes = text_by (quoted_at bytes)
-
-abbrev pub byte_onto : Option ℕ → Option (List ℕ) → Option (List ℕ)
-byte_onto (Some b) (Some bs) = Some (b ∷ bs)
-byte_onto _ _ = None
-
--- two digits a byte
-unfoldable pub hex_of : List ℕ → Option (List ℕ)
-hex_of [] = Some []
-hex_of (high ∷ []) = None
-hex_of (high ∷ low ∷ digits) = byte_onto (hex_pair high low) (hex_of digits)
 
 abbrev pub word_value_by : Option (List ℕ) → List ℕ → Option Value
 word_value_by None word = option_map Int (integer_of word)
@@ -218,7 +201,7 @@ unfoldable pub needed_name : List ℕ → Result (List ℕ × List ℕ) ℕ
 needed_name bytes = needed (column_name (next_word bytes)) bytes (behind_next bytes)
 
 unfoldable pub needed_kind : List ℕ → Result (Kind × List ℕ) ℕ
-needed_kind bytes = needed (kind_of (next_word bytes)) bytes (behind_next bytes)
+needed_kind bytes = needed (kind_named (next_word bytes)) bytes (behind_next bytes)
 
 abbrev pub edge_by : Bool → List Value × List ℕ → Result (Option Edge × List ℕ) ℕ
 edge_by strict ([], rest) = stopped rest

@@ -1,20 +1,20 @@
 -- How a line is spelled, token by token: a client's name, a moment, and one command; or nothing but a remark.
-use Rattle.std.specs.Prelude.{◌≡◌, ◌⊎◌, ℕ, ◌-◌, ◌^◌, ◌≤◌, pos, Bool, true, false, ◌==◌, List, [], ◌∷◌, ◌++◌, length, Option, Some, None, if◌then◌else◌, codes}
+use Rattle.std.specs.Prelude.{◌≡◌, ◌⊎◌, ℕ, ◌-◌, ◌^◌, ◌≤◌, Bool, true, false, ◌==◌, List, [], ◌∷◌, ◌++◌, length, Option, Some, None, if◌then◌else◌, codes}
 use Rattle.std.specs.List.{list_all}
 use Rattle.lt_schema.specs.Names.{is_name, is_name_byte}
 use Rattle.lt_schema.specs.declared.kind.Kind.{Kind}
 use Rattle.lt_schema.specs.declared.kind.Kind.TheVariants.{Int32, Int64, Time, Text as TextKind, Blob as BlobKind}
 use Rattle.lt_schema.specs.declared.value.Value.{Value}
-use Rattle.lt_schema.specs.declared.value.Value.TheVariants.{Int, Text, Blob}
 use Rattle.lt_schema.specs.declared.change.Change.{Change}
 use Rattle.lt_schema.specs.declared.change.Change.TheVariants.{Append, Widen}
 use Rattle.lt_schema.specs.Shapes.{ColumnShape}
-use Rattle.lt_lang.specs.declared.command.Command.{Command}
-use Rattle.lt_lang.specs.declared.command.Command.TheVariants.{Insert, Scan, Latest, Flush, Upkeep, Alter, Tablets}
-use Rattle.lt_lang.specs.declared.command.Line.{Line}
-use Rattle.lt_lang.specs.declared.command.Line.TheVariants as lines
-use Rattle.lt_lang.specs.declared.query.Edge.{Edge}
-use Rattle.lt_lang.specs.declared.query.Query.{Query}
+use Rattle.lt_schema.specs.Values.{blank_of}
+use Rattle.lt_command.specs.declared.command.Command.{Command}
+use Rattle.lt_command.specs.declared.command.Command.TheVariants.{Insert, Scan, Latest, Flush, Upkeep, Alter, Tablets}
+use Rattle.lt_command.specs.declared.command.Line.{Line}
+use Rattle.lt_command.specs.declared.command.Line.TheVariants as lines
+use Rattle.lt_command.specs.declared.query.Edge.{Edge}
+use Rattle.lt_command.specs.declared.query.Query.{Query}
 use Rattle.lt_lang.specs.Numbers.{IsCount, IsMoment}
 use Rattle.lt_lang.specs.Tokens.{is_space, is_ended, skipped}
 use Rattle.lt_lang.specs.Literals.{IsLit, AreLits, IsToken}
@@ -104,14 +104,6 @@ kind_word Int64 = codes "int64"
 kind_word Time = codes "time"
 kind_word TextKind = codes "text"
 kind_word BlobKind = codes "blob"
-
--- 0, or nothing
-abbrev pub blank_of : Kind → Value
-blank_of Int32 = Int (pos 0)
-blank_of Int64 = Int (pos 0)
-blank_of Time = Int (pos 0)
-blank_of TextKind = Text []
-blank_of BlobKind = Blob []
 
 -- a literal, of whatever kind; where it is left out, the kind's blank value
 abbrev pub IsDefault : Kind → List (List ℕ) → Value → Type 0

@@ -1,25 +1,14 @@
 //! Changes of a schema.
 ghost use Rattle.std.specs.Prelude.{◌≡◌, IfOk};
-ghost use Rattle.lt_lang.specs.Sentences.{blank_of};
 ghost use Rattle.lt_lang.specs.Parsing.{Gives, append_at, change_at, default_at, widen_at};
 
 use crate::literals::literal_at;
 use crate::names::{name_label, needed_kind, needed_name};
 use crate::stop::Stop;
 use crate::tokens::{after_word, stop_at};
-use lt_rec::{Label, NoMemory, Octets};
+use lt_rec::NoMemory;
 use lt_schema::{Change, Column, Kind, Value};
 use std::alloc::Global;
-
-fn blank_of(alloc: Global, kind: Kind) -> Value
-    ensures { result ≡ blank_of kind }
-{
-    match kind {
-        Kind::Int32 | Kind::Int64 | Kind::Time => Value::Int(0),
-        Kind::Text => Value::Text(Label::from_string(String::new(alloc))),
-        Kind::Blob => Value::Blob(Octets::from_vec(Vec::new(alloc))),
-    }
-}
 
 #[tactic(auto, unfolding(crate::specs::Parsing::default_at))]
 fn default_at(alloc: Global, kind: Kind, bytes: &[u8]) -> Result<(Value, &[u8]), NoMemory>
@@ -27,7 +16,7 @@ fn default_at(alloc: Global, kind: Kind, bytes: &[u8]) -> Result<(Value, &[u8]),
 {
     match literal_at(alloc, bytes)? {
         Some((value, rest)) => Ok((value, rest)),
-        None => Ok((blank_of(alloc, kind), bytes)),
+        None => Ok((kind.blank(alloc), bytes)),
     }
 }
 

@@ -1,10 +1,13 @@
 //! Integers at the front of a line: an optional -, and 1 to 19 digits.
 ghost use Rattle.std.specs.Prelude.{◌≡◌, ◌^◌, ◌≤◌, ℕ, Some, IfSome, neg_ℤ, pos, SomeIff};
 ghost use Rattle.lt_lang.specs.Numbers.{IsCount};
-ghost use Rattle.lt_lang.specs.Parsing.{count_of, integer_of, moment_of};
+ghost use Rattle.lt_schema.specs.declared.value.Value.TheVariants.{Int};
+ghost use Rattle.lt_lang.specs.Tokens.{behind, word_of};
+ghost use Rattle.lt_lang.specs.Parsing.{count_of, integer_of, literal_here, moment_of};
 ghost use Rattle.lt_lang.specs.Reading.{Finds, count_at, digit_at, digits_at, integer_at, moment_at, negated_at, unsigned_at};
 
-use crate::tokens::after;
+use crate::tokens::{after, is_ended};
+use core::dec2flt::read_digits;
 
 const MOMENTS: u64 = 1 << 62;
 
@@ -17,7 +20,21 @@ fn digit_at(bytes: &[u8]) -> Option<(u8, &[u8])>
     }
 }
 
+/// The number of the digits here, 19 at most.
 fn digits_at(bytes: &[u8]) -> (u64, &[u8])
+    ensures { (result.0, result.1.now) ≡ digits_at 19 0 bytes.now }
+{
+    let (len, number) = read_digits(bytes, 0, 0);
+    if len > 19 {
+        return first_digits_at(bytes);
+    }
+    let (_, rest) = bytes.split_at(len);
+    (number, rest)
+}
+
+#[cold]
+#[inline(never)]
+fn first_digits_at(bytes: &[u8]) -> (u64, &[u8])
     ensures { (result.0, result.1.now) ≡ digits_at 19 0 bytes.now }
 {
     let mut number = 0;
@@ -83,6 +100,31 @@ fn integer_at(bytes: &[u8]) -> Option<(i64, &[u8])>
     match bytes.split_first() {
         Some((b'-', digits)) => negated_at(digits),
         _ => unsigned_at(bytes),
+    }
+}
+
+/// The integer that stands here, where a space or nothing follows it.
+#[tactic(auto, using(crate::proofs::Standing::integer_literal))]
+pub fn integer_here(bytes: &[u8]) -> Option<(i64, &[u8])>
+    ensures { IfSome result (λ x. literal_here bytes.now ≡ Some (Int x.0, x.1.now)) }
+{
+    let (integer, rest) = integer_at(bytes)?;
+    if is_ended(rest) {
+        Some((integer, rest))
+    } else {
+        None
+    }
+}
+
+/// The moment that is the next token, where it begins here.
+pub fn moment_here(bytes: &[u8]) -> Option<(u64, &[u8])>
+    ensures { IfSome result (λ x. (moment_of (word_of bytes.now) ≡ Some x.0) × (behind bytes.now ≡ x.1.now)) }
+{
+    let (moment, rest) = moment_at(after(bytes, b"@")?)?;
+    if is_ended(rest) {
+        Some((moment, rest))
+    } else {
+        None
     }
 }
 

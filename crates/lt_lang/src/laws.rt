@@ -1,8 +1,8 @@
 //! What holds of lines by their spelling alone.
 ghost use Rattle.std.specs.Prelude.{◌≡◌, ℕ, List, Option};
 ghost use Rattle.lt_lang.specs.Sentences.{IsSentence, IsSkipped};
-ghost use Rattle.lt_lang.specs.declared.command.Command.{Command as Asked};
-ghost use Rattle.lt_lang.specs.declared.command.Line.TheVariants.{Command as Asks};
+ghost use Rattle.lt_command.specs.declared.command.Command.{Command as Asked};
+ghost use Rattle.lt_command.specs.declared.command.Line.TheVariants.{Command as Asks};
 
 /// The same bytes spell one command at most, and no remark beside it.
 pub fn one_meaning()

@@ -3,28 +3,19 @@
 #![tactic(auto)]
 
 mod alters;
-mod command;
 mod hex;
 mod integers;
 mod laws;
 mod lines;
 mod literals;
 mod names;
-mod query;
 mod scans;
 mod sentences;
 mod stop;
 mod texts;
 mod tokens;
 
-pub use command::{Command, Line};
 pub use integers::read_count;
 pub use laws::one_meaning;
 pub use lines::next_line;
-pub use query::{Edge, Query};
 pub use sentences::read_line;
-
-#[cfg(test)]
-mod line_tests;
-#[cfg(test)]
-mod tests;

@@ -1,9 +1,9 @@
 //! Names: of clients, of columns, and of kinds.
 ghost use Rattle.std.specs.Prelude.{◌≡◌, ◌≤◌, IfOk, IsTrue, length};
 ghost use Rattle.std.specs.List.{list_all, prefix_len};
-ghost use Rattle.lt_schema.specs.Names.{is_letter, is_name_byte};
+ghost use Rattle.lt_schema.specs.Names.{is_name_byte};
 ghost use Rattle.lt_lang.specs.Reading.{Finds};
-ghost use Rattle.lt_lang.specs.Parsing.{Gives, client_of, kind_of, needed_kind, needed_name};
+ghost use Rattle.lt_lang.specs.Parsing.{Gives, client_of, needed_kind, needed_name};
 
 use crate::stop::Stop;
 use crate::tokens::{next_word, stop_at};
@@ -11,23 +11,13 @@ use lt_rec::{Label, NoMemory};
 use lt_schema::{Column, Kind};
 use std::alloc::Global;
 
-fn is_letter(byte: u8) -> bool
-    ensures { result ≡ is_letter byte }
-{
-    byte >= b'a' && byte <= b'z'
-}
-
-fn is_name_byte(byte: u8) -> bool
-    ensures { result ≡ is_name_byte byte }
-{
-    is_letter(byte) || (byte >= b'0' && byte <= b'9') || byte == b'_'
-}
-
 fn name_len(word: &[u8]) -> usize
     ensures len { result ≡ prefix_len is_name_byte word.now }
     ensures within { result ≤ length word.now }
 {
-    word.iter().take_while(|byte| is_name_byte(**byte)).count()
+    word.iter()
+        .take_while(|byte| Column::is_name_byte(**byte))
+        .count()
 }
 
 /// A client's name, which a colon follows.
@@ -68,32 +58,13 @@ pub fn needed_name(bytes: &[u8]) -> Result<(&[u8], &[u8]), Stop>
     }
 }
 
-#[tactic(auto, unfolding(crate::specs::Parsing::kind_of))]
-fn kind_of(word: &[u8]) -> Option<Kind>
-    ensures { Finds (λ x. x) result (kind_of word.now) }
-{
-    if word == b"int32".as_slice() {
-        Some(Kind::Int32)
-    } else if word == b"int64".as_slice() {
-        Some(Kind::Int64)
-    } else if word == b"time".as_slice() {
-        Some(Kind::Time)
-    } else if word == b"text".as_slice() {
-        Some(Kind::Text)
-    } else if word == b"blob".as_slice() {
-        Some(Kind::Blob)
-    } else {
-        None
-    }
-}
-
 /// The kind of a column that has to come next.
 #[tactic(auto, unfolding(crate::specs::Parsing::needed_kind))]
 pub fn needed_kind(bytes: &[u8]) -> Result<(Kind, &[u8]), Stop>
     ensures { Gives (λ x. (x.0, x.1.now)) result (needed_kind bytes.now) }
 {
     let (word, rest) = next_word(bytes);
-    match kind_of(word) {
+    match Kind::named(word) {
         Some(kind) => Ok((kind, rest)),
         None => Err(stop_at(bytes)),
     }

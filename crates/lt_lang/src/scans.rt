@@ -6,7 +6,7 @@ ghost use Rattle.lt_lang.specs.Parsing.{literals_at};
 use crate::literals::literals_at;
 use crate::stop::Stop;
 use crate::tokens::{after_word, needed_count, stop_at};
-use crate::{Edge, Query};
+use lt_command::{Edge, Query};
 use std::alloc::Global;
 
 const LIMIT: u64 = 1_000;

@@ -1,6 +1,6 @@
 //! A line is read token by token: a client's name, a moment, and one command.
 ghost use Rattle.std.specs.Prelude.{◌≡◌, ◌-◌, ℕ, List, Option, IfOk, codes, length};
-ghost use Rattle.lt_lang.specs.declared.command.Command.{Command as Asked};
+ghost use Rattle.lt_command.specs.declared.command.Command.{Command as Asked};
 ghost use Rattle.lt_lang.specs.Sentences.{is_remark, IsSentence, IsSkipped, IsSpelled};
 ghost use Rattle.lt_lang.specs.Parsing.{Gives, client_line, command_at, command_by, last_command, line_at, request_at};
 ghost use Rattle.lt_lang.specs.Parsing.{said, says, literals_at, scan_at, maybe_count, change_at};
@@ -10,8 +10,8 @@ use crate::literals::literals_at;
 use crate::names::{client_of, name_label};
 use crate::scans::scan_at;
 use crate::stop::Stop;
-use crate::tokens::{maybe_count, maybe_moment, next_word, skip_spaces, stop_at};
-use crate::{Command, Line};
+use crate::tokens::{maybe_count, maybe_moment, skip_spaces, split_word, stop_at};
+use lt_command::{Command, Line};
 use lt_rec::{Label, NoMemory};
 use std::alloc::Global;
 
@@ -82,8 +82,9 @@ fn command_by<'a>(
 fn command_at(alloc: Global, bytes: &[u8]) -> Result<(Command, &[u8]), Stop>
     ensures { Gives (λ x. (x.0, x.1.now)) result (command_at bytes.now) }
 {
-    let (word, rest) = next_word(bytes);
-    command_by(alloc, word, rest, skip_spaces(bytes).len())
+    let here = skip_spaces(bytes);
+    let (word, rest) = split_word(here);
+    command_by(alloc, word, rest, here.len())
 }
 
 #[tactic(auto, unfolding(crate::specs::Parsing::last_command))]
@@ -149,7 +150,7 @@ fn line_at(alloc: Global, line: &[u8]) -> Result<Line, NoMemory>
     if is_remark(here) {
         return Ok(Line::Skip);
     }
-    let (word, rest) = next_word(line);
+    let (word, rest) = split_word(here);
     match client_of(word) {
         Some(name) => client_line(alloc, line, name_label(alloc, name)?, rest),
         None => no_client(alloc, line, here.len()),

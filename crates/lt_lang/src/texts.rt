@@ -105,6 +105,7 @@ fn label_of(bytes: Vec<u8>) -> Option<Label>
 }
 
 #[tactic(auto, unfolding(crate::specs::Parsing::text_behind))]
+#[inline(never)]
 fn unescaped(alloc: Global, bytes: &[u8]) -> Result<Option<(Label, &[u8])>, NoMemory>
     ensures { IfOk result (λ found. Finds (λ x. (Text x.0, x.1.now)) found (text_behind bytes.now)) }
 {
@@ -120,6 +121,7 @@ fn unescaped(alloc: Global, bytes: &[u8]) -> Result<Option<(Label, &[u8])>, NoMe
     }
 }
 
+#[inline(always)]
 fn copied<'a>(
     alloc: Global,
     text: &[u8],
@@ -138,6 +140,7 @@ fn copied<'a>(
 
 /// A text behind its opening quote, and the bytes behind its closing one. A text without escapes is copied once.
 #[tactic(auto, unfolding(crate::specs::Parsing::text_behind))]
+#[inline(always)]
 pub fn text_behind(alloc: Global, bytes: &[u8]) -> Result<Option<(Label, &[u8])>, NoMemory>
     ensures { IfOk result (λ found. Finds (λ x. (Text x.0, x.1.now)) found (text_behind bytes.now)) }
 {

@@ -6,7 +6,7 @@ ghost use Rattle.lt_lang.specs.Tokens.{behind, is_ended, is_solid, is_space, ski
 ghost use Rattle.lt_lang.specs.Parsing.{after_word, behind_next, maybe_count, maybe_moment, needed_count, next_word};
 ghost use Rattle.lt_lang.specs.Parsing.{Gives};
 
-use crate::integers::{count_of, moment_of};
+use crate::integers::{count_of, moment_here, moment_of};
 use crate::stop::Stop;
 
 fn spaces_len(bytes: &[u8]) -> usize
@@ -112,7 +112,11 @@ pub fn maybe_count(bytes: &[u8]) -> (Option<u64>, &[u8])
 pub fn maybe_moment(bytes: &[u8]) -> (Option<u64>, &[u8])
     ensures { (result.0, result.1.now) ≡ maybe_moment bytes.now }
 {
-    let (word, rest) = next_word(bytes);
+    let here = skip_spaces(bytes);
+    if let Some((moment, rest)) = moment_here(here) {
+        return (Some(moment), rest);
+    }
+    let (word, rest) = split_word(here);
     match moment_of(word) {
         Some(moment) => (Some(moment), rest),
         None => (None, bytes),

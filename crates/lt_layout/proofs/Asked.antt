@@ -4,27 +4,10 @@ use Rattle.std.specs.Prelude.{nat_eq}
 use Rattle.std.specs.Cmp.Lexicographic.{pointwise}
 use Rattle.std.specs.Int.{w64, to_be_bytes}
 use Rattle.std.proofs.lemmas.Bool.{eqb-true, eq-eqb, and_parts, and_from}
-use Rattle.lt_block.specs.Reading.{◌>>=◌, number_at}
-use Rattle.lt_block.proofs.Fields.{IsBytes, bind_ok, guard_yes, ok_is, Takes, Takes-then, wide64, number_takes, number_again}
+use Rattle.lt_rec.specs.Reading.{◌>>=◌, number_at, asked}
+use Rattle.lt_rec.proofs.Reading.{IsBytes, bind_ok, ok_is, Takes, Takes-then, wide64, number_takes, number_again, asked_ok, asked_again}
 use Rattle.lt_layout.specs.Spelling.{numbers}
-use Rattle.lt_layout.specs.Reading.{asked, holds, numbers_at, same_at}
-
-abbrev pub done : {A : Type 0} → A → Result A ℕ
-done x = Ok x
-
-pub asked_ok : {A : Type 0} (test : A → Bool) (at : ℕ) (r : Result (A × List ℕ) ℕ) (x : A × List ℕ) → asked test at r ≡ Ok x → (r ≡ Ok x) × (test x.0 ≡ true)
-asked_ok test at (Ok y) x e = let g = guard_yes (test y.0) at y x e in (ap done g.1, ap (λ (p : _ × List ℕ). test p.0) (sym g.1) ∙ g.0)
-asked_ok test at (Err d) x e = absurd cc
-
-pub asked_again : {A : Type 0} (test : A → Bool) (at : ℕ) (r : Result (A × List ℕ) ℕ) (x : A × List ℕ) → r ≡ Ok x → test x.0 ≡ true → asked test at r ≡ Ok x
-asked_again test at r x e h = ap (asked test at) e ∙ ap (λ (b : Bool). cond b (Ok x) (Err at)) h
-
-pub holds_ok : (test : Bool) (at : ℕ) (u : Unit {0}) → holds test at ≡ Ok u → test ≡ true
-holds_ok true at u e = refl
-holds_ok false at u e = absurd cc
-
-pub holds_again : (test : Bool) (at : ℕ) → test ≡ true → holds test at ≡ Ok tt
-holds_again test at h = ap (λ (b : Bool). holds b at) h
+use Rattle.lt_layout.specs.Reading.{numbers_at, same_at}
 
 -- ---- equal bytes
 

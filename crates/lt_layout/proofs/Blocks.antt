@@ -7,15 +7,15 @@ use Rattle.std.specs.Int.{w32, to_be_bytes}
 use Rattle.std.proofs.lemmas.Bool.{ltb-true, lt-ltb, and_parts, and_from, or_cases, or_left, or_right}
 use Rattle.std.proofs.lemmas.List.{length-append, length-take, length-drop, take_at, drop_at, take-append-drop, drop-drop}
 use Rattle.lt_rec.specs.Bytes.{is_less}
-use Rattle.lt_rec.specs.Record.{Record, IsRecord, time_of}
+use Rattle.lt_rec.specs.Record.{Record, IsRecord, time_of, spelled}
 use Rattle.lt_rec.specs.Records.{joined}
-use Rattle.lt_block.specs.Spelling.{spelled, spelling, Rises, IsBlock, last_key}
-use Rattle.lt_block.specs.Reading.{◌>>=◌}
-use Rattle.lt_block.proofs.Fields.{IsBytes, IsBytes-take, IsBytes-drop, bind_ok, ok_is}
-use Rattle.lt_block.proofs.Records.{spelled_len}
-use Rattle.lt_block.proofs.Blocks.{time_is, all_len}
+use Rattle.lt_block.specs.Spelling.{spelling, Rises, IsBlock, last_key}
+use Rattle.lt_rec.specs.Reading.{◌>>=◌, is_within}
+use Rattle.lt_rec.proofs.Reading.{IsBytes, IsBytes-take, IsBytes-drop, bind_ok, ok_is}
+use Rattle.lt_rec.proofs.Stored.{spelled_len, time_is}
+use Rattle.lt_block.proofs.Blocks.{all_len}
 use Rattle.lt_layout.specs.Spelling.{Entry, Totals, first_key, entry_of, entries_of, end_of, blocks_spelled}
-use Rattle.lt_layout.specs.Reading.{is_within, suits_key, own_block_at, moved, blocks_at}
+use Rattle.lt_layout.specs.Reading.{suits_key, own_block_at, moved, blocks_at}
 use Rattle.lt_layout.proofs.Asked.{same_bytes, bytes_same_by}
 use Rattle.lt_layout.specs.Entries.{IsKey, IsEntry, IsEntries}
 use Rattle.lt_layout.proofs.IndexText.{AreSmall}

@@ -4,9 +4,9 @@ use Rattle.std.specs.Prelude.{nat_eq, min}
 use Rattle.std.specs.Int.{w64}
 use Rattle.std.proofs.lemmas.Bool.{eq-eqb, ne_eqb}
 use Rattle.std.proofs.lemmas.List.{at_drop_more, at_drop_all, length-drop}
-use Rattle.lt_block.specs.Reading.{◌>>=◌, number_at}
-use Rattle.lt_layout.specs.Reading.{asked, holds, numbers_at, same_at}
-use Rattle.lt_layout.proofs.Asked.{holds_ok}
+use Rattle.lt_rec.specs.Reading.{◌>>=◌, number_at, asked, holds}
+use Rattle.lt_layout.specs.Reading.{numbers_at, same_at}
+use Rattle.lt_rec.proofs.Reading.{holds_ok}
 
 abbrev rest_at : List ℕ → ℕ → ℕ × List ℕ → Result (List ℕ) ℕ
 rest_at ns at x = numbers_at ns (at + 8) x.1

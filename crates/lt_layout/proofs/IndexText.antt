@@ -5,12 +5,12 @@ use Rattle.std.specs.List.{flat_map}
 use Rattle.std.specs.Int.{w32, w64, to_be_bytes}
 use Rattle.std.proofs.lemmas.Bool.{ltb-true, leb-true, lt-ltb, le-leb, eqb-true, eq-eqb, and_parts, and_from, or_cases, or_left, or_right, not-true, not_from_false}
 use Rattle.lt_rec.specs.Bytes.{is_less}
-use Rattle.lt_block.specs.Reading.{◌>>=◌, number_at, bytes_at, is_key_len}
-use Rattle.lt_block.proofs.Fields.{IsBytes, bind_ok, ok_is, Takes, Takes-then, wide32, number_takes, number_again, bytes_take, bytes_again}
+use Rattle.lt_rec.specs.Reading.{◌>>=◌, number_at, bytes_at, asked}
+use Rattle.lt_block.specs.Reading.{is_key_len}
+use Rattle.lt_rec.proofs.Reading.{IsBytes, bind_ok, ok_is, Takes, Takes-then, wide32, number_takes, number_again, bytes_take, bytes_again, asked_ok, asked_again}
 use Rattle.lt_layout.specs.Spelling.{Entry, key_spelled, entry_spelled, end_of}
 use Rattle.lt_layout.specs.Entries.{IsKey, IsEntry, IsEntries}
-use Rattle.lt_layout.specs.Reading.{asked, key_at, is_len, entry_at, entry_len, entries_at}
-use Rattle.lt_layout.proofs.Asked.{asked_ok, asked_again}
+use Rattle.lt_layout.specs.Reading.{key_at, is_len, entry_at, entry_len, entries_at}
 use Rattle.lt_layout.proofs.FooterText.{asked_takes, number_asked}
 
 -- ---- a key
@@ -177,7 +177,7 @@ entries_again index at start last (e ∷ es) rest h small =
     ∙ (ap (λ (q : Result (Entry × List ℕ) ℕ). q >>= λ first. entries_at index (length es) (at + entry_len first.0) (start + first.0.len) first.0.last first.1 >>= λ others. Ok (first.0 ∷ others.0, others.1)) (entry_again index (length es) at start last e (flat_map entry_spelled es ++ rest) h.0 small.0.0 small.0.1)
     ∙ ap (λ (q : Result (List Entry × List ℕ) ℕ). q >>= λ others. Ok (e ∷ others.0, others.1)) (entries_again index (at + entry_len e) (start + e.len) e.last es rest h.1 small.1))
 
--- ---- what entries are told to be
+-- ---- what entries are footer_numbers to be
 
 pub ends : (index start : ℕ) (last : List ℕ) (es : List Entry) → 0 < length es → IsEntries index start last es → end_of start es ≡ index
 ends index start last [] some h = absurd (omega (arith, some))

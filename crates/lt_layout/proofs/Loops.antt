@@ -5,14 +5,13 @@ use Rattle.std.specs.Int.{w32, w64}
 use Rattle.std.proofs.lemmas.Bool.{ltb-false, ne_eqb, eqb-true}
 use Rattle.std.proofs.lemmas.List.{append-nil}
 use Rattle.lt_rec.specs.Record.{Record, stored_len}
-use Rattle.lt_block.specs.Reading.{◌>>=◌, Reads, number_at, ended}
-use Rattle.lt_block.proofs.Fields.{IsBytes, wide64, number_takes}
+use Rattle.lt_rec.specs.Reading.{◌>>=◌, Reads, number_at, ended, asked, holds}
+use Rattle.lt_rec.proofs.Reading.{IsBytes, wide64, number_takes, holds_ok, asked_again}
 use Rattle.lt_layout.specs.Spelling.{Entry, Totals}
-use Rattle.lt_block.specs.declared.fault.Fault.{Fault}
+use Rattle.lt_rec.specs.declared.fault.Fault.{Fault}
 use Rattle.lt_block.proofs.Loop.{err_is}
 use Rattle.lt_layout.specs.Surveying.{Checks}
-use Rattle.lt_layout.proofs.Asked.{holds_ok, asked_again}
-use Rattle.lt_layout.specs.Reading.{asked, holds, entry_at, entry_len, entries_at, own_record_at, own_records_at, own_block_at}
+use Rattle.lt_layout.specs.Reading.{entry_at, entry_len, entries_at, own_record_at, own_records_at, own_block_at}
 
 -- what was read before, and what is still read
 abbrev pub with_front : {A : Type 0} → List A → Result (List A × List ℕ) ℕ → Result (List A × List ℕ) ℕ

@@ -6,15 +6,16 @@ use Rattle.std.specs.Int.{w32, w64, to_be_bytes, from_be_bytes}
 use Rattle.std.proofs.lemmas.Bool.{lt-ltb, le-ltb, le-leb, eqb-true, eq-eqb, and_from}
 use Rattle.std.proofs.lemmas.List.{length-append, take_at, append-nil}
 use Rattle.lt_rec.specs.Bytes.{is_less}
-use Rattle.lt_rec.specs.Record.{Record, IsRecord, stored_len}
-use Rattle.lt_block.specs.Spelling.{spelled, spelling, Rises, IsBlock}
-use Rattle.lt_block.specs.Reading.{◌>>=◌, number_at, is_key_len, record_at, records_at, count_at, ended, block_at}
-use Rattle.lt_block.proofs.Fields.{IsBytes, bind_ok, ok_is, wide32, wide64, number_takes, number_again}
-use Rattle.lt_block.proofs.Records.{spelled_len, record_takes, record_again, records_take}
+use Rattle.lt_rec.specs.Record.{Record, IsRecord, stored_len, spelled}
+use Rattle.lt_block.specs.Spelling.{spelling, Rises, IsBlock}
+use Rattle.lt_rec.specs.Reading.{◌>>=◌, number_at, ended, asked, holds, is_within}
+use Rattle.lt_block.specs.Reading.{is_key_len, record_at, records_at, count_at, block_at}
+use Rattle.lt_rec.proofs.Reading.{IsBytes, bind_ok, ok_is, wide32, wide64, number_takes, number_again, asked_ok, asked_again, holds_ok, holds_again}
+use Rattle.lt_rec.proofs.Stored.{spelled_len}
+use Rattle.lt_block.proofs.Records.{record_takes, record_again, records_take}
 use Rattle.lt_block.proofs.Blocks.{block_takes}
 use Rattle.lt_layout.specs.Spelling.{Entry, Totals}
-use Rattle.lt_layout.specs.Reading.{asked, holds, is_within, suits_key, suits_bytes, own_record_at, own_records_at, own_block_at}
-use Rattle.lt_layout.proofs.Asked.{asked_ok, asked_again, holds_ok, holds_again}
+use Rattle.lt_layout.specs.Reading.{suits_key, suits_bytes, own_record_at, own_records_at, own_block_at}
 
 -- what the tablet asks of a record that `left` others follow in its block
 abbrev pub suits : Totals → Entry → ℕ → List ℕ → Record → Bool

@@ -5,11 +5,12 @@ use Rattle.std.proofs.lemmas.Bool.{and_parts}
 use Rattle.std.proofs.lemmas.List.{drop-drop}
 use Rattle.lt_rec.specs.Bytes.{is_less}
 use Rattle.lt_rec.specs.Record.{time_of}
-use Rattle.lt_block.specs.Reading.{number_at, bytes_at, is_key_len, may_follow, key_len_at, body_len_at, seq_at, record_at}
-use Rattle.lt_block.proofs.Fields.{IsBytes, guard_no}
+use Rattle.lt_rec.specs.Reading.{number_at, bytes_at, is_within}
+use Rattle.lt_block.specs.Reading.{is_key_len, may_follow, key_len_at, body_len_at, seq_at, record_at}
+use Rattle.lt_rec.proofs.Reading.{IsBytes, guard_no}
 use Rattle.lt_block.proofs.Records.{record_takes}
 use Rattle.lt_layout.specs.Spelling.{Entry, Totals}
-use Rattle.lt_layout.specs.Reading.{is_within, suits_key, own_record_at, Sees}
+use Rattle.lt_layout.specs.Reading.{suits_key, own_record_at, Sees}
 use Rattle.lt_layout.proofs.Own.{own_record_given}
 
 -- what is left behind a number, and the bytes that are taken

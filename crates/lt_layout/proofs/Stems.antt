@@ -6,7 +6,7 @@ use Rattle.std.proofs.lemmas.List.{append-nil}
 use Rattle.lt_rec.specs.Record.{Record, stem_of}
 use Rattle.lt_bloom.specs.Hash.{hash_of}
 use Rattle.lt_block.specs.Spelling.{last_key}
-use Rattle.lt_block.proofs.Fields.{IsBytes}
+use Rattle.lt_rec.proofs.Reading.{IsBytes}
 use Rattle.lt_layout.specs.Spelling.{Entry, Totals, differs, hashes_from, totals_of}
 use Rattle.lt_layout.specs.Reading.{are_alike, own_block_at}
 use Rattle.lt_layout.specs.Surveying.{Found, found_in, last_of}

@@ -10,7 +10,7 @@ use Rattle.lt_rec.specs.Record.{Record, IsRecord}
 use Rattle.lt_rec.specs.Records.{joined}
 use Rattle.lt_block.specs.Spelling.{Rises, last_key, IsBlock}
 use Rattle.lt_layout.specs.Spelling.{Totals, least, greatest, totals_of}
-use Rattle.lt_layout.specs.Reading.{is_within}
+use Rattle.lt_rec.specs.Reading.{is_within}
 
 -- ---- what holds of all of a list
 
@@ -82,12 +82,12 @@ all_of P Q f (x ∷ xs) h = (f x h.0, all_of P Q f xs h.1)
 -- ---- the order of keys
 
 less_is : (a b : List ℕ) → is_less a b ≡ true → slice_cmp nat_cmp a b ≡ Less
-less_is a b h = told (slice_cmp nat_cmp a b) h
+less_is a b h = footer_numbers (slice_cmp nat_cmp a b) h
   where
-    told : (o : Ordering) → is_lt o ≡ true → o ≡ Less
-    told Less h = refl
-    told Equal h = absurd cc
-    told Greater h = absurd cc
+    footer_numbers : (o : Ordering) → is_lt o ≡ true → o ≡ Less
+    footer_numbers Less h = refl
+    footer_numbers Equal h = absurd cc
+    footer_numbers Greater h = absurd cc
 
 pub less_trans : (a b c : List ℕ) → is_less a b ≡ true → is_less b c ≡ true → is_less a c ≡ true
 less_trans a b c h k = ap is_lt (nat_list_cmp_total.trans a b c (less_is a b h) (less_is b c k))
@@ -96,11 +96,11 @@ pub less_not : (a b : List ℕ) → is_less a b ≡ true → is_less b a ≡ fal
 less_not a b h = ap is_lt (nat_list_cmp_total.antisymm b a ∙ ap ordering_reverse (less_is a b h))
 
 pub not_less_self : (a : List ℕ) → is_less a a ≡ false
-not_less_self a = told (is_less a a) refl
+not_less_self a = footer_numbers (is_less a a) refl
   where
-    told : (t : Bool) → is_less a a ≡ t → t ≡ false
-    told false h = refl
-    told true h = sym h ∙ less_not a a h
+    footer_numbers : (t : Bool) → is_less a a ≡ t → t ≡ false
+    footer_numbers false h = refl
+    footer_numbers true h = sym h ∙ less_not a a h
 
 pub last_not_below : (key : List ℕ) (recs : List Record) → Rises key recs → is_less (last_key key recs) key ≡ false
 last_not_below key recs rising =

@@ -6,16 +6,16 @@ use Rattle.std.specs.Cmp.Lexicographic.{pointwise}
 use Rattle.std.specs.Int.{w32, to_be_bytes}
 use Rattle.std.proofs.lemmas.Bool.{ltb-false, le-ltb, eqb-true, eq-eqb}
 use Rattle.std.proofs.lemmas.List.{append-nil, length-append, length-take, length-drop, take_at, drop_at, take-append-drop, drop-drop, nil_from_length}
-use Rattle.lt_rec.specs.Record.{Record, IsRecord}
+use Rattle.lt_rec.specs.Record.{Record, IsRecord, spelled}
 use Rattle.lt_rec.specs.Records.{joined}
 use Rattle.lt_bloom.proofs.Filters.{filter_len}
-use Rattle.lt_block.specs.Spelling.{spelled, spelling, IsBlock}
-use Rattle.lt_block.specs.Reading.{◌>>=◌, ended}
-use Rattle.lt_block.proofs.Fields.{IsBytes, IsBytes-take, IsBytes-drop, bind_ok, ok_is}
+use Rattle.lt_block.specs.Spelling.{spelling, IsBlock}
+use Rattle.lt_rec.specs.Reading.{◌>>=◌, ended, holds}
+use Rattle.lt_rec.proofs.Reading.{IsBytes, IsBytes-take, IsBytes-drop, bind_ok, ok_is, done, holds_ok, holds_again}
 use Rattle.lt_block.proofs.Blocks.{all_len}
-use Rattle.lt_layout.specs.Spelling.{Entry, Totals, Parts, IsTablet, header, told, entries_of, key_spelled, entry_spelled, end_of, blocks_spelled, index_spelled, hashes_from, filter_of, footer_spelled, parts_of, totals_of, file_of}
-use Rattle.lt_layout.specs.Reading.{holds, footer_place, footer_at, header_at, entries_at, index_at, blocks_at, totals_at, filter_at, same_at, between, file_at}
-use Rattle.lt_layout.proofs.Asked.{done, holds_ok, holds_again, same_bytes, bytes_same, same_at_ok, same_at_again, Short}
+use Rattle.lt_layout.specs.Spelling.{Entry, Totals, Parts, IsTablet, header, footer_numbers, entries_of, key_spelled, entry_spelled, end_of, blocks_spelled, index_spelled, hashes_from, filter_of, footer_spelled, parts_of, totals_of, file_of}
+use Rattle.lt_layout.specs.Reading.{footer_place, footer_at, header_at, entries_at, index_at, blocks_at, totals_at, filter_at, same_at, between, file_at}
+use Rattle.lt_layout.proofs.Asked.{same_bytes, bytes_same, same_at_ok, same_at_again, Short}
 use Rattle.lt_layout.proofs.FooterText.{FooterFound, footer_takes, footer_again}
 use Rattle.lt_layout.specs.Entries.{IsEntries}
 use Rattle.lt_layout.specs.Phases.{Lie}
@@ -241,7 +241,7 @@ file_parts blocks h =
       len = omega (arith, length-append (blocks_spelled blocks) (index_spelled blocks ++ (filter_of (joined blocks) ++ foot)), length-append (index_spelled blocks) (filter_of (joined blocks) ++ foot), length-append (filter_of (joined blocks)) foot, foot_len);
     }
 
-small_totals : (recs : List Record) → length recs < 2 ^ 64 → AllByRecursion IsRecord recs → Short (told (totals_of recs))
+small_totals : (recs : List Record) → length recs < 2 ^ 64 → AllByRecursion IsRecord recs → Short (footer_numbers (totals_of recs))
 small_totals recs few lawful =
     let times = all_of IsRecord (λ r. r.ts < 2 ^ 64) (λ r h. h.moment) recs lawful in
     let numbers = all_of IsRecord (λ r. r.seq < 2 ^ 64) (λ r h. omega (arith, h.numbered)) recs lawful in

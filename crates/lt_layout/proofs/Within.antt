@@ -5,8 +5,9 @@ use Rattle.std.specs.Int.{Width, w32, w64, byte_len, from_be_bytes}
 use Rattle.std.proofs.lemmas.Bool.{ltb-false}
 use Rattle.std.proofs.lemmas.List.{length-drop}
 use Rattle.lt_rec.specs.Record.{Record, time_of}
-use Rattle.lt_block.specs.declared.fault.Fault.{Fault}
-use Rattle.lt_block.specs.Reading.{◌>>=◌, Reads, number_at, bytes_at, is_key_len, may_follow, key_len_at, body_len_at, seq_at, record_at}
+use Rattle.lt_rec.specs.declared.fault.Fault.{Fault}
+use Rattle.lt_rec.specs.Reading.{◌>>=◌, Reads, number_at, bytes_at}
+use Rattle.lt_block.specs.Reading.{is_key_len, may_follow, key_len_at, body_len_at, seq_at, record_at}
 
 -- a field of n bytes at offset `at`: its fault is its first byte
 record IsField {A : Type 0} (at n : ℕ) (bytes : List ℕ) (read : Result (A × List ℕ) ℕ) : Type 0 where

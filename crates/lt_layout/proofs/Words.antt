@@ -6,7 +6,7 @@ use Rattle.std.specs.Cmp.Lexicographic.{pointwise}
 use Rattle.std.proofs.lemmas.Bool.{eqb-true, eq-eqb, and_parts, and_from}
 use Rattle.std.proofs.lemmas.List.{drop-drop, length-drop, length-take}
 use Rattle.lt_rec.specs.Record.{stem_of}
-use Rattle.lt_block.proofs.Fields.{IsBytes, wide64}
+use Rattle.lt_rec.proofs.Reading.{IsBytes, wide64}
 use Rattle.lt_layout.specs.Spelling.{differs}
 use Rattle.lt_layout.specs.Reading.{are_alike}
 use Rattle.lt_layout.proofs.Asked.{same_bytes, bytes_same_by}

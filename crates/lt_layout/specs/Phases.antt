@@ -2,7 +2,7 @@
 use Rattle.std.specs.Prelude.{◌≡◌, ℕ, ◌-◌, ◌<◌, ◌≤◌, List, length, drop, Result, Ok, slice_index}
 use Rattle.lt_rec.specs.Records.{joined}
 use Rattle.lt_bloom.specs.Filter.{filter_bytes}
-use Rattle.lt_block.specs.Reading.{◌>>=◌}
+use Rattle.lt_rec.specs.Reading.{◌>>=◌}
 use Rattle.lt_layout.specs.Spelling.{Entry, Totals, Parts}
 use Rattle.lt_layout.specs.Reading.{footer_place, footer_at, header_at, blocks_at, totals_at, filter_at, between}
 use Rattle.lt_layout.specs.Surveying.{Found, found_in}

@@ -5,17 +5,9 @@ use Rattle.std.specs.Cmp.Lexicographic.{pointwise}
 use Rattle.lt_rec.specs.Bytes.{is_less}
 use Rattle.lt_rec.specs.Record.{Record, stored_len, stem_of, time_of}
 use Rattle.lt_rec.specs.Records.{joined}
-use Rattle.lt_block.specs.Reading.{◌>>=◌, number_at, bytes_at, is_key_len, record_at, ended}
-use Rattle.lt_layout.specs.Spelling.{Entry, Totals, Parts, header, mark, told, totals_of, filter_of}
-
--- a field that passes its test; else the field is named
-abbrev pub asked : {A : Type 0} → (A → Bool) → ℕ → Result (A × List ℕ) ℕ → Result (A × List ℕ) ℕ
-asked test at (Ok x) = if test x.0 then Ok x else Err at
-asked test at (Err e) = Err e
-
--- what holds; else the offset is named
-abbrev pub holds : Bool → ℕ → Result (Unit {0}) ℕ
-holds test at = if test then Ok tt else Err at
+use Rattle.lt_rec.specs.Reading.{◌>>=◌, number_at, bytes_at, ended, asked, holds, is_within}
+use Rattle.lt_block.specs.Reading.{is_key_len, record_at}
+use Rattle.lt_layout.specs.Spelling.{Entry, Totals, Parts, header, mark, footer_numbers, totals_of, filter_of}
 
 -- ---- 1. the length
 
@@ -36,7 +28,7 @@ footer_at t foot bytes = do
   blocks ← asked (λ n. nat_lt 0 n) (foot + 8) (number_at w64 (foot + 8) index.1)
   filter ← asked (λ n. nat_lt index.0 n && nat_le n foot) (foot + 16) (number_at w64 (foot + 16) blocks.1)
   filter_len ← asked (nat_eq (foot - filter.0)) (foot + 24) (number_at w64 (foot + 24) filter.1)
-  rest ← numbers_at (told t) (foot + 32) filter_len.1
+  rest ← numbers_at (footer_numbers t) (foot + 32) filter_len.1
   marked ← holds (pointwise nat_eq rest mark) (foot + 80)
   Ok (record { index = index.0; blocks = blocks.0; filter = filter.0; filter_len = filter_len.0 })
 
@@ -82,9 +74,6 @@ abbrev pub index_at : Parts → List ℕ → Result (List Entry) ℕ
 index_at p bytes = entries_at p.index p.blocks p.index 8 [] bytes >>= λ x. ended p.filter x
 
 -- ---- 5. the blocks
-
-abbrev pub is_within : ℕ → ℕ → ℕ → Bool
-is_within low high n = nat_le low n && nat_le n high
 
 -- What the tablet asks of a key: its timestamp is within the bounds, and the first and the last key of a block are those
 -- of its entry. The first one has none before it, and behind the last one none is left.

@@ -105,15 +105,15 @@ pub record Parts : Type 0 where
   pub filter : ℕ
   pub filter_len : ℕ
 
--- the six numbers that the listing tells: the five totals, and that nothing is packed
-abbrev pub told : Totals → List ℕ
-told t = t.rows ∷ t.low ∷ t.high ∷ t.first ∷ t.last ∷ 0 ∷ []
+-- the six numbers behind the parts' places: the five totals, and that nothing is packed
+abbrev pub footer_numbers : Totals → List ℕ
+footer_numbers t = t.rows ∷ t.low ∷ t.high ∷ t.first ∷ t.last ∷ 0 ∷ []
 
 abbrev pub numbers : List ℕ → List ℕ
 numbers ns = flat_map (to_be_bytes w64) ns
 
 abbrev pub footer_spelled : Parts → Totals → List ℕ
-footer_spelled p t = to_be_bytes w64 p.index ++ (to_be_bytes w64 p.blocks ++ (to_be_bytes w64 p.filter ++ (to_be_bytes w64 p.filter_len ++ (numbers (told t) ++ mark))))
+footer_spelled p t = to_be_bytes w64 p.index ++ (to_be_bytes w64 p.blocks ++ (to_be_bytes w64 p.filter ++ (to_be_bytes w64 p.filter_len ++ (numbers (footer_numbers t) ++ mark))))
 
 -- ---- the file
 

@@ -1,9 +1,9 @@
 -- What is found of records while they are read one after the other.
 use Rattle.std.specs.Prelude.{◌≡◌, ◌≤◌, ℕ, List, [], ◌∷◌, Option, Some, None, Result, Ok, Err}
 use Rattle.lt_rec.specs.Record.{Record}
-use Rattle.lt_block.specs.declared.fault.Fault.{Fault}
-use Rattle.lt_block.specs.declared.fault.BlockError.{BlockError}
-use Rattle.lt_block.specs.declared.fault.BlockError.TheVariants as errors
+use Rattle.lt_rec.specs.declared.fault.Fault.{Fault}
+use Rattle.lt_rec.specs.declared.fault.FormatError.{FormatError}
+use Rattle.lt_rec.specs.declared.fault.FormatError.TheVariants as errors
 use Rattle.lt_layout.specs.Spelling.{Totals, totals_of, hashes_from}
 
 pub record Found : Type 0 where
@@ -25,6 +25,6 @@ Checks {Y} (Ok done) read = (y : Y) × (read ≡ Ok y)
 Checks (Err fault) read = read ≡ Err fault.at
 
 -- a fault's offset is none behind so many bytes
-abbrev pub IsWithin : ℕ → BlockError → Type 0
+abbrev pub IsWithin : ℕ → FormatError → Type 0
 IsWithin n (errors.Bad at) = at ≤ n
 IsWithin n errors.NoMemory = Unit {0}

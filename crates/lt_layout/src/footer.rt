@@ -1,12 +1,11 @@
 //! The ends of a file: its length, its footer and its header.
 ghost use Rattle.std.specs.Prelude.{◌≡◌, ◌+◌, ◌*◌, ◌<◌, ◌≤◌, ◌^◌, length, IfOk};
-ghost use Rattle.lt_block.specs.Reading.{Reads};
-ghost use Rattle.lt_layout.specs.Spelling.{told};
+ghost use Rattle.lt_rec.specs.Reading.{Reads, holds};
 ghost use Rattle.lt_layout.specs.Phases.{Lie};
-ghost use Rattle.lt_layout.specs.Reading.{holds, footer_place, numbers_at, footer_at, header_at, totals_at, same_at, filter_at};
+ghost use Rattle.lt_layout.specs.Reading.{footer_place, numbers_at, footer_at, header_at, totals_at, same_at, filter_at};
 
 use crate::totals::Totals;
-use lt_block::{Fault, u64_at};
+use lt_rec::{Fault, test_at, u64_at};
 use std::marker::Model;
 
 /// The first eight bytes of a file.
@@ -38,20 +37,13 @@ impl Model for Parts {
     ghost inverse = { λ v. record { index = v.index; blocks = v.blocks; filter = v.filter; filter_len = v.filter_len } };
 }
 
-/// Answers the fault where the test fails.
-pub fn holds(test: bool, at: u64) -> Result<(), Fault>
-    ensures exact { Reads (λ x. x) result (holds test at) }
-{
-    if test { Ok(()) } else { Err(Fault { at }) }
-}
-
 /// Where the footer of a file begins that is listed with a length and has another, or the same.
 pub fn footer_place(listed: u64, len: u64) -> Result<u64, Fault>
     ensures exact { Reads (λ foot. foot) result (footer_place listed len) }
     ensures place { IfOk result (λ foot. (foot + 88 ≡ len) × (listed ≡ len)) }
 {
-    holds(len == listed, len.min(listed))?;
-    holds(len >= SHORTEST_FILE, 0)?;
+    test_at(len == listed, len.min(listed))?;
+    test_at(len >= SHORTEST_FILE, 0)?;
     Ok(len - FOOTER_LEN)
 }
 
@@ -63,7 +55,7 @@ fn numbers_of<'a>(wanted: &[u64], at: u64, bytes: &'a [u8]) -> Result<&'a [u8], 
     let mut place = at;
     for number in wanted {
         let (found, after) = u64_at(place, rest)?;
-        holds(*number == found, place)?;
+        test_at(*number == found, place)?;
         rest = after;
         place += 8;
     }
@@ -78,15 +70,15 @@ pub fn footer_of(totals: &Totals, foot: u64, bytes: &[u8]) -> Result<Parts, Faul
     ensures lie { IfOk result (λ parts. Lie foot parts) }
 {
     let (index, rest) = u64_at(foot, bytes)?;
-    holds(8 < index && index <= foot, foot)?;
+    test_at(8 < index && index <= foot, foot)?;
     let (blocks, rest) = u64_at(foot + 8, rest)?;
-    holds(0 < blocks, foot + 8)?;
+    test_at(0 < blocks, foot + 8)?;
     let (filter, rest) = u64_at(foot + 16, rest)?;
-    holds(index < filter && filter <= foot, foot + 16)?;
+    test_at(index < filter && filter <= foot, foot + 16)?;
     let (filter_len, rest) = u64_at(foot + 24, rest)?;
-    holds(filter_len == foot - filter, foot + 24)?;
-    let rest = numbers_of(&totals.told(), foot + 32, rest)?;
-    holds(rest == MARK.as_slice(), foot + 80)?;
+    test_at(filter_len == foot - filter, foot + 24)?;
+    let rest = numbers_of(&totals.footer_numbers(), foot + 32, rest)?;
+    test_at(rest == MARK.as_slice(), foot + 80)?;
     Ok(Parts {
         index,
         blocks,
@@ -100,19 +92,19 @@ pub fn check_header(front: &[u8]) -> Result<(), Fault>
     requires { length front.now ≤ 8 }
     ensures exact { Reads (λ x. x) result (header_at front.now) }
 {
-    holds(front == HEADER.as_slice(), 0)
+    test_at(front == HEADER.as_slice(), 0)
 }
 
-/// What was found of all records is what the footer tells.
-pub fn check_totals(foot: u64, told: &Totals, found: &Totals) -> Result<(), Fault>
+/// What was found of all records is what the file is listed with.
+pub fn check_totals(foot: u64, listed: &Totals, found: &Totals) -> Result<(), Fault>
     requires { foot + 88 < 2 ^ 64 }
-    ensures exact { Reads (λ x. x) result (totals_at foot told.now found.now) }
+    ensures exact { Reads (λ x. x) result (totals_at foot listed.now found.now) }
 {
-    holds(found.rows == told.rows, foot + 32)?;
-    holds(found.low == told.low, foot + 40)?;
-    holds(found.high == told.high, foot + 48)?;
-    holds(found.first == told.first, foot + 56)?;
-    holds(found.last == told.last, foot + 64)
+    test_at(found.rows == listed.rows, foot + 32)?;
+    test_at(found.low == listed.low, foot + 40)?;
+    test_at(found.high == listed.high, foot + 48)?;
+    test_at(found.first == listed.first, foot + 56)?;
+    test_at(found.last == listed.last, foot + 64)
 }
 
 fn check_same(at: u64, bytes: &[u8], wanted: &[u8]) -> Result<(), Fault>
@@ -121,9 +113,9 @@ fn check_same(at: u64, bytes: &[u8], wanted: &[u8]) -> Result<(), Fault>
 {
     let common = bytes.len().min(wanted.len());
     for i in 0..common {
-        holds(bytes[i] == wanted[i], at + i as u64)?;
+        test_at(bytes[i] == wanted[i], at + i as u64)?;
     }
-    holds(bytes.len() == wanted.len(), at + common as u64)
+    test_at(bytes.len() == wanted.len(), at + common as u64)
 }
 
 /// The bytes of the filter are the defined ones.
@@ -132,6 +124,6 @@ pub fn check_filter(foot: u64, parts: &Parts, bytes: &[u8], wanted: &[u8]) -> Re
     requires within { parts.now.filter + length bytes.now ≤ foot }
     ensures exact { Reads (λ x. x) result (filter_at foot parts.now bytes.now wanted.now) }
 {
-    holds(parts.filter_len == wanted.len() as u64, foot + 24)?;
+    test_at(parts.filter_len == wanted.len() as u64, foot + 24)?;
     check_same(parts.filter, bytes, wanted)
 }

@@ -1,12 +1,14 @@
 //! The index of a file: where each block lies, how many records it has, and its first and last keys.
 ghost use Rattle.std.specs.Prelude.{◌≡◌, ◌+◌, ◌<◌, ◌≤◌, ◌^◌, [], length, nat_lt, if◌then◌else◌, Some, None, IfOk};
 ghost use Rattle.lt_layout.specs.Entries.{IsEntries};
-ghost use Rattle.lt_block.specs.Reading.{Reads, Gives, is_key_len};
+ghost use Rattle.lt_rec.specs.Reading.{Reads, Gives};
+ghost use Rattle.lt_block.specs.Reading.{is_key_len};
 ghost use Rattle.lt_layout.specs.Reading.{is_len, key_at, entry_at, entries_at, index_at};
 
-use crate::footer::{Parts, holds};
-use lt_block::{BlockError, Fault, LONGEST_BLOCK, bytes_of, u32_at, u64_at};
-use lt_rec::{NoMemory, Octets, Rec};
+use crate::footer::Parts;
+use lt_rec::{
+    Fault, FormatError, LONGEST_BLOCK, NoMemory, Octets, Rec, bytes_of, test_at, u32_at, u64_at,
+};
 use std::alloc::Global;
 use std::cmp::Ordering;
 use std::marker::Model;
@@ -46,7 +48,7 @@ fn key_of(at: u64, bytes: &[u8]) -> Result<(&[u8], &[u8]), Fault>
     ensures len { IfOk result (λ x. length x.1.now + 4 + length x.0.now ≡ length bytes.now) }
 {
     let (len, rest) = u32_at(at, bytes)?;
-    holds(is_key_length(len), at)?;
+    test_at(is_key_length(len), at)?;
     bytes_of(len as usize, at, rest)
 }
 
@@ -114,16 +116,16 @@ fn entry_of<'a>(
     ensures len { IfOk result (λ x. length x.1.now + 24 + length x.0.first + length x.0.last ≡ length bytes.now) }
 {
     let (offset, rest) = u64_at(at, bytes)?;
-    holds(offset == start, at)?;
+    test_at(offset == start, at)?;
     let (len, rest) = u32_at(at + 8, rest)?;
-    holds(is_length(index, left, start, len), at + 8)?;
+    test_at(is_length(index, left, start, len), at + 8)?;
     let (count, rest) = u32_at(at + 12, rest)?;
-    holds(0 < count, at + 12)?;
+    test_at(0 < count, at + 12)?;
     let (first, rest) = key_of(at + 16, rest)?;
-    holds(last.cmp(first) == Ordering::Less, at + 16)?;
+    test_at(last.cmp(first) == Ordering::Less, at + 16)?;
     let place = at + 20 + first.len() as u64;
     let (last, rest) = key_of(place, rest)?;
-    holds(last.cmp(first) != Ordering::Less, place)?;
+    test_at(last.cmp(first) != Ordering::Less, place)?;
     Ok((
         EntryView {
             offset,
@@ -142,7 +144,7 @@ fn entries_of<'a>(
     index: u64,
     count: u64,
     bytes: &'a [u8],
-) -> Result<(Vec<IndexEntry>, &'a [u8]), BlockError>
+) -> Result<(Vec<IndexEntry>, &'a [u8]), FormatError>
     requires { index + length bytes.now < 2 ^ 64 }
     ensures exact { Gives (λ x. (x.0.items, x.1.now)) result (entries_at index count index 8 [] bytes.now) }
     ensures len { IfOk result (λ x. length x.1.now ≤ length bytes.now) }
@@ -156,7 +158,7 @@ fn entries_of<'a>(
         let at = index + (bytes.len() - rest.len()) as u64;
         let begin = match start {
             Some(begin) => begin,
-            None => return Err(BlockError::Bad { at }),
+            None => return Err(FormatError::Bad { at }),
         };
         let (entry, after) = entry_of(index, count - done - 1, at, begin, last, rest)?;
         entries.push(entry.to_entry(alloc)?)?;
@@ -168,7 +170,7 @@ fn entries_of<'a>(
 }
 
 /// The index, which ends where the filter begins.
-pub fn index_of(alloc: Global, parts: &Parts, bytes: &[u8]) -> Result<Vec<IndexEntry>, BlockError>
+pub fn index_of(alloc: Global, parts: &Parts, bytes: &[u8]) -> Result<Vec<IndexEntry>, FormatError>
     requires { parts.now.index + length bytes.now ≡ parts.now.filter }
     ensures exact { Gives (λ entries. entries.items) result (index_at parts.now bytes.now) }
     ensures count { IfOk result (λ entries. length entries.items ≡ parts.now.blocks) }
@@ -177,6 +179,6 @@ pub fn index_of(alloc: Global, parts: &Parts, bytes: &[u8]) -> Result<Vec<IndexE
 {
     let end = parts.filter;
     let (entries, left) = entries_of(alloc, parts.index, parts.blocks, bytes)?;
-    holds(left.is_empty(), end - left.len() as u64)?;
+    test_at(left.is_empty(), end - left.len() as u64)?;
     Ok(entries)
 }

@@ -3,15 +3,15 @@ ghost use Rattle.std.specs.Prelude.{◌≡◌, ℕ, ◌<◌, ◌≤◌, ◌+◌,
 ghost use Rattle.std.specs.Int.{w64, from_be_bytes};
 ghost use Rattle.lt_rec.specs.Record.{stem_of, time_of, stored_len};
 ghost use Rattle.lt_rec.specs.Bytes.{is_less};
-ghost use Rattle.lt_block.specs.Reading.{Reads, is_key_len, record_at};
-ghost use Rattle.lt_layout.specs.Reading.{is_within, suits_key, suits_bytes, own_record_at, are_alike, Sees};
+ghost use Rattle.lt_rec.specs.Reading.{Reads, is_within};
+ghost use Rattle.lt_block.specs.Reading.{is_key_len, record_at};
+ghost use Rattle.lt_layout.specs.Reading.{suits_key, suits_bytes, own_record_at, are_alike, Sees};
 
 use crate::alike::are_same;
-use crate::footer::holds;
 use crate::index::{IndexEntry, is_key_length};
 use crate::totals::Totals;
-use lt_block::{Fault, RecView, bytes_of, record_of, u32_at, u64_at};
-use lt_rec::Rec;
+use lt_block::record_of;
+use lt_rec::{Fault, NUMBERS_END, Rec, RecView, bytes_of, test_at, u32_at, u64_at};
 use std::cmp::Ordering;
 
 /// What is asked of a record when its block is checked: its key, whether the key before is alike, its timestamp and number,
@@ -24,9 +24,6 @@ pub struct Seen<'a> {
     pub seq: u64,
     pub rest: &'a [u8],
 }
-
-/// How many bytes of a record stand before its key.
-const HEAD: usize = 20;
 
 /// A key without its timestamp.
 pub fn stem_of(key: &[u8]) -> &[u8]
@@ -87,10 +84,10 @@ fn bytes_suit(
     if !number_suits(totals, bytes) {
         return false;
     }
-    if bytes.len() < HEAD + key_len {
+    if bytes.len() < Rec::HEADER + key_len {
         return true;
     }
-    let (_, behind) = bytes.split_at(HEAD);
+    let (_, behind) = bytes.split_at(Rec::HEADER);
     let (key, _) = behind.split_at(key_len);
     key_suits(totals, entry, left, last, key)
 }
@@ -107,7 +104,7 @@ fn seen_suits(totals: &Totals, entry: &IndexEntry, left: u32, last: &[u8], seen:
 fn are_fit(key_len: u32, body_len: u32, seq: u64) -> bool
     ensures { result ≡ (is_key_len key_len && (nat_le body_len 60000 && nat_lt seq (2 ^ 62))) }
 {
-    is_key_length(key_len) && (body_len <= Rec::LONGEST_BODY as u32 && seq < Rec::SEQ_END)
+    is_key_length(key_len) && (body_len <= Rec::LONGEST_BODY as u32 && seq < NUMBERS_END)
 }
 
 /// The two keys are as long, and have the same stem.
@@ -152,16 +149,16 @@ fn seen_of<'a>(at: u64, last: &[u8], bytes: &'a [u8]) -> Result<Seen<'a>, Fault>
     ensures alike { IfOk result (λ x. x.is_alike ≡ are_alike last.now x.key.now) }
 {
     // What is asked of the length once is not asked again of each field.
-    holds(bytes.len() >= HEAD, at)?;
+    test_at(bytes.len() >= Rec::HEADER, at)?;
     let (key_len, rest) = u32_at(at, bytes)?;
     let (body_len, rest) = u32_at(at + 4, rest)?;
     let (seq, rest) = u64_at(at + 8, rest)?;
     let (_ver, rest) = u32_at(at + 16, rest)?;
     let (key, rest) = bytes_of(key_len as usize, at + 20, rest)?;
     let (_body, rest) = bytes_of(body_len as usize, at + 20 + key_len as u64, rest)?;
-    holds(are_fit(key_len, body_len, seq), at)?;
+    test_at(are_fit(key_len, body_len, seq), at)?;
     let is_alike = are_alike(last, key);
-    holds(rises(is_alike, last, key), at)?;
+    test_at(rises(is_alike, last, key), at)?;
     let ts = time_of(key);
     Ok(Seen {
         key,
@@ -188,8 +185,8 @@ fn first_fault_of<'a>(
     ensures within { IfErr result (λ fault. fault.at ≤ at + length bytes.now) }
 {
     let (key_len, _) = u32_at(at, bytes)?;
-    holds(is_key_length(key_len), at)?;
-    holds(
+    test_at(is_key_length(key_len), at)?;
+    test_at(
         bytes_suit(totals, entry, left, last, key_len as usize, bytes),
         at,
     )?;

@@ -6,14 +6,14 @@ ghost use Rattle.lt_layout.specs.Spelling.{key_spelled, entry_spelled, footer_sp
 use crate::footer::{MARK, Parts};
 use crate::index::IndexEntry;
 use crate::totals::Totals;
-use lt_rec::NoMemory;
+use lt_rec::{NoMemory, put_u32, put_u64};
 use std::alloc::Global;
 
 fn put_key(out: &mut Vec<u8>, key: &[u8]) -> Result<(), NoMemory>
     ensures { OnOk result (out.new.items ≡ out.old.items ++ key_spelled key.now) }
 {
     let len = u32::try_from(key.len()).map_err(|_| NoMemory)?;
-    out.extend_from_slice(&len.to_be_bytes())?;
+    put_u32(out, len)?;
     out.extend_from_slice(key)?;
     Ok(())
 }
@@ -21,9 +21,9 @@ fn put_key(out: &mut Vec<u8>, key: &[u8]) -> Result<(), NoMemory>
 fn put_entry(out: &mut Vec<u8>, entry: &IndexEntry) -> Result<(), NoMemory>
     ensures { OnOk result (out.new.items ≡ out.old.items ++ entry_spelled entry.now) }
 {
-    out.extend_from_slice(&entry.offset.to_be_bytes())?;
-    out.extend_from_slice(&entry.len.to_be_bytes())?;
-    out.extend_from_slice(&entry.count.to_be_bytes())?;
+    put_u64(out, entry.offset)?;
+    put_u32(out, entry.len)?;
+    put_u32(out, entry.count)?;
     put_key(out, entry.first.as_slice())?;
     put_key(out, entry.last.as_slice())?;
     Ok(())
@@ -44,7 +44,7 @@ fn put_numbers(out: &mut Vec<u8>, list: &[u64]) -> Result<(), NoMemory>
     ensures { OnOk result (out.new.items ≡ out.old.items ++ numbers list.now) }
 {
     for number in list {
-        out.extend_from_slice(&number.to_be_bytes())?;
+        put_u64(out, *number)?;
     }
     Ok(())
 }
@@ -58,7 +58,7 @@ pub fn spell_footer(alloc: Global, parts: &Parts, totals: &Totals) -> Result<Vec
         &mut out,
         &[parts.index, parts.blocks, parts.filter, parts.filter_len],
     )?;
-    put_numbers(&mut out, &totals.told())?;
+    put_numbers(&mut out, &totals.footer_numbers())?;
     out.extend_from_slice(&MARK)?;
     Ok(out)
 }

@@ -2,18 +2,17 @@
 ghost use Rattle.std.specs.Prelude.{◌≡◌, ◌<◌, ◌≤◌, ◌++◌, ◌∷◌, [], List, Ok, Some, OnOk, IfErr, option_copied, option_map, not, length, if◌then◌else◌};
 ghost use Rattle.lt_rec.specs.Record.{Record, stem_of};
 ghost use Rattle.lt_bloom.specs.Hash.{hash_of};
-ghost use Rattle.lt_block.specs.Reading.{Fails, block_at};
+ghost use Rattle.lt_rec.specs.Reading.{Fails};
+ghost use Rattle.lt_block.specs.Reading.{block_at};
 ghost use Rattle.lt_layout.specs.Spelling.{differs};
 ghost use Rattle.lt_layout.specs.Reading.{own_block_at};
 ghost use Rattle.lt_layout.specs.Surveying.{Checks, IsWithin, last_of, found_in};
 
-use crate::footer::holds;
 use crate::index::IndexEntry;
 use crate::records::{own_record_of, stem_of};
 use crate::totals::Totals;
-use lt_block::{BlockError, Fault, u32_at};
 use lt_bloom::stem_hash;
-use lt_rec::NoMemory;
+use lt_rec::{Fault, FormatError, NoMemory, test_at, u32_at};
 use std::alloc::Global;
 use std::marker::Model;
 
@@ -124,7 +123,7 @@ pub fn check_block(totals: &Totals, entry: &IndexEntry, bytes: &[u8]) -> Result<
     ensures block { OnOk result ((recs : List Record) → 0 < entry.now.count → own_block_at totals.now entry.now bytes.now ≡ Ok recs → block_at bytes.now ≡ Ok recs) }
 {
     let (count, behind) = u32_at(0, bytes)?;
-    holds(entry.count == count, 0)?;
+    test_at(entry.count == count, 0)?;
     let mut last: &[u8] = &[];
     let mut rest = behind;
     for done in 0..count {
@@ -133,7 +132,7 @@ pub fn check_block(totals: &Totals, entry: &IndexEntry, bytes: &[u8]) -> Result<
         last = seen.key;
         rest = seen.rest;
     }
-    holds(rest.is_empty(), (bytes.len() - rest.len()) as u64)
+    test_at(rest.is_empty(), (bytes.len() - rest.len()) as u64)
 }
 
 /// The same, and the records are surveyed; `before` is the last key of the block before, or there is none.
@@ -145,14 +144,14 @@ pub fn survey_block(
     before: Option<&[u8]>,
     bytes: &[u8],
     survey: &mut Survey,
-) -> Result<(), BlockError>
+) -> Result<(), FormatError>
     requires { length bytes.now ≤ 65536 }
     ensures found { OnOk result ((recs : List Record) → option_copied before.entry ≡ last_of recs → survey.old ≡ found_in recs → (own : List Record) × (own_block_at totals.now entry.now bytes.now ≡ Ok own) × (survey.new ≡ found_in (recs ++ own)) × (0 < entry.now.count → last_of own ≡ Some entry.now.last)) }
     ensures fault { IfErr result (λ why. Fails why (own_block_at totals.now entry.now bytes.now)) }
     ensures within { IfErr result (λ why. IsWithin (length bytes.now) why) }
 {
     let (count, behind) = u32_at(0, bytes)?;
-    holds(entry.count == count, 0)?;
+    test_at(entry.count == count, 0)?;
     // A copy of the totals stays out of memory in the loop.
     let mut found = survey.totals;
     let mut last: &[u8] = &[];
@@ -167,5 +166,5 @@ pub fn survey_block(
         rest = seen.rest;
     }
     survey.totals = found;
-    Ok(holds(rest.is_empty(), (bytes.len() - rest.len()) as u64)?)
+    Ok(test_at(rest.is_empty(), (bytes.len() - rest.len()) as u64)?)
 }

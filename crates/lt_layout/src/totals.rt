@@ -1,7 +1,7 @@
 ghost use Rattle.std.specs.Prelude.{◌≡◌, ◌++◌, ◌∷◌, [], List, OnOk, OnErr};
 ghost use Rattle.lt_rec.specs.Record.{Record};
-ghost use Rattle.lt_layout.specs.Spelling.{listed_totals, told, totals_of};
-ghost use Rattle.lt_layout.specs.Reading.{is_within};
+ghost use Rattle.lt_layout.specs.Spelling.{footer_numbers, listed_totals, totals_of};
+ghost use Rattle.lt_rec.specs.Reading.{is_within};
 
 use lt_rec::{Listed, NoMemory};
 use std::marker::Model;
@@ -41,9 +41,9 @@ impl Totals {
         }
     }
 
-    /// The six numbers that a footer tells of them: these five, and that nothing is packed.
-    pub(crate) fn told(&self) -> [u64; 6]
-        ensures { result ≡ told self.now }
+    /// The six numbers of a footer behind its places: these five, and that nothing is packed.
+    pub(crate) fn footer_numbers(&self) -> [u64; 6]
+        ensures { result ≡ footer_numbers self.now }
     {
         [self.rows, self.low, self.high, self.first, self.last, 0]
     }

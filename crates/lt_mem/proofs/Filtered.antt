@@ -84,54 +84,54 @@ pieces_in_parts ps from to =
     ∙ ap (λ xs. xs ++ joined (drop to ps)) (ap joined (sym (take-append-drop from (take to ps))) ∙ joined-append (take from (take to ps)) (drop from (take to ps)))
     ∙ append_assoc (joined (take from (take to ps))) (joined (drop from (take to ps))) (joined (drop to ps))
 
-not_lo : (area : RawBox) (x : Record) → meets_lo area.lo x.key ≡ false → in_box area x ≡ false
-not_lo area x e = rw e refl
+not_lo : (raw_box : RawBox) (x : Record) → meets_lo raw_box.lo x.key ≡ false → in_box raw_box x ≡ false
+not_lo raw_box x e = rw e refl
 
-not_hi : (area : RawBox) (x : Record) → meets_hi area.hi x.key ≡ false → in_box area x ≡ false
-not_hi area x e = both (meets_lo area.lo x.key) (meets_hi area.hi x.key) (has_time area x) e
+not_hi : (raw_box : RawBox) (x : Record) → meets_hi raw_box.hi x.key ≡ false → in_box raw_box x ≡ false
+not_hi raw_box x e = both (meets_lo raw_box.lo x.key) (meets_hi raw_box.hi x.key) (has_time raw_box x) e
   where
     both : (a b t : Bool) → b ≡ false → ((a && b) && t) ≡ false
     both true b t f = rw f refl
     both false b t f = refl
 
 -- the pieces between two places have all records of the box
-pub box_between : (area : RawBox) (ps : List (List Record)) (from to : ℕ) (down : Bool) → to ≤ length ps → ((k : ℕ) → k < from → NoneMeetsLo area (piece_at ps k)) → ((k : ℕ) → to ≤ k → k < length ps → NoneMeetsHi area (piece_at ps k))
-    → filter (in_box area) (in_order down (joined ps)) ≡ filter (in_box area) (in_order down (joined (drop from (take to ps))))
-box_between area ps from to down h before behind =
-    ap (λ xs. filter (in_box area) (in_order down xs)) (pieces_in_parts ps from to)
-    ∙ filter_middle (in_box area) down (joined (take from (take to ps))) (joined (drop from (take to ps))) (joined (drop to ps))
-    (all_joined (λ x. in_box area x ≡ false) (take from (take to ps)) (λ k w.
+pub box_between : (raw_box : RawBox) (ps : List (List Record)) (from to : ℕ) (down : Bool) → to ≤ length ps → ((k : ℕ) → k < from → NoneMeetsLo raw_box (piece_at ps k)) → ((k : ℕ) → to ≤ k → k < length ps → NoneMeetsHi raw_box (piece_at ps k))
+    → filter (in_box raw_box) (in_order down (joined ps)) ≡ filter (in_box raw_box) (in_order down (joined (drop from (take to ps))))
+box_between raw_box ps from to down h before behind =
+    ap (λ xs. filter (in_box raw_box) (in_order down xs)) (pieces_in_parts ps from to)
+    ∙ filter_middle (in_box raw_box) down (joined (take from (take to ps))) (joined (drop from (take to ps))) (joined (drop to ps))
+    (all_joined (λ x. in_box raw_box x ≡ false) (take from (take to ps)) (λ k w.
     let n = length-take from (take to ps) in
     let m = length-take to ps in
     let u : k < from = omega arith in
     let v : k < to = omega arith in
     let same : piece_at (take from (take to ps)) k ≡ piece_at ps k = get_or-take from (take to ps) k [] u ∙ get_or-take to ps k [] v in
-    subst (All (λ x. in_box area x ≡ false)) (sym same) (λ i d z. not_lo area (get_or (piece_at ps k) i d) (before k u i d z))))
-    (all_joined (λ x. in_box area x ≡ false) (drop to ps) (λ k w.
+    subst (All (λ x. in_box raw_box x ≡ false)) (sym same) (λ i d z. not_lo raw_box (get_or (piece_at ps k) i d) (before k u i d z))))
+    (all_joined (λ x. in_box raw_box x ≡ false) (drop to ps) (λ k w.
     let n = length-drop to ps in
-    subst (All (λ x. in_box area x ≡ false)) (sym (get_or-drop to ps k [])) (λ i d z. not_hi area (get_or (piece_at ps (to + k)) i d) (behind (to + k) (omega arith) (omega arith) i d z))))
+    subst (All (λ x. in_box raw_box x ≡ false)) (sym (get_or-drop to ps k [])) (λ i d z. not_hi raw_box (get_or (piece_at ps (to + k)) i d) (behind (to + k) (omega arith) (omega arith) i d z))))
 
 -- the box's records are those between two places with a timestamp of the box
-module _ (area : RawBox) (xs : List Record) (from to : ℕ)
-    (lo_before : (k : ℕ) (d : Record) → k < from → meets_lo area.lo (get_or xs k d).key ≡ false) (lo_after : (k : ℕ) (d : Record) → from ≤ k → k < length xs → meets_lo area.lo (get_or xs k d).key ≡ true)
-    (hi_before : (k : ℕ) (d : Record) → k < to → meets_hi area.hi (get_or xs k d).key ≡ true) (hi_after : (k : ℕ) (d : Record) → to ≤ k → k < length xs → meets_hi area.hi (get_or xs k d).key ≡ false) where
-  meets : (x : Record) → meets_lo area.lo x.key ≡ true → meets_hi area.hi x.key ≡ true → in_box area x ≡ has_time area x
+module _ (raw_box : RawBox) (xs : List Record) (from to : ℕ)
+    (lo_before : (k : ℕ) (d : Record) → k < from → meets_lo raw_box.lo (get_or xs k d).key ≡ false) (lo_after : (k : ℕ) (d : Record) → from ≤ k → k < length xs → meets_lo raw_box.lo (get_or xs k d).key ≡ true)
+    (hi_before : (k : ℕ) (d : Record) → k < to → meets_hi raw_box.hi (get_or xs k d).key ≡ true) (hi_after : (k : ℕ) (d : Record) → to ≤ k → k < length xs → meets_hi raw_box.hi (get_or xs k d).key ≡ false) where
+  meets : (x : Record) → meets_lo raw_box.lo x.key ≡ true → meets_hi raw_box.hi x.key ≡ true → in_box raw_box x ≡ has_time raw_box x
   meets x e f = rw (e, f) refl
 
-  pub box_middle : (down : Bool) → from ≤ to → filter (in_box area) (in_order down xs) ≡ filter (has_time area) (piece xs from to down)
+  pub box_middle : (down : Bool) → from ≤ to → filter (in_box raw_box) (in_order down xs) ≡ filter (has_time raw_box) (piece xs from to down)
   box_middle down h =
       let m = take (to - from) (drop from xs) in
-      ap (λ ys. filter (in_box area) (in_order down ys)) (in_parts xs from to h)
-      ∙ filter_middle (in_box area) down (take from xs) m (drop to xs)
+      ap (λ ys. filter (in_box raw_box) (in_order down ys)) (in_parts xs from to h)
+      ∙ filter_middle (in_box raw_box) down (take from xs) m (drop to xs)
       (λ k d w.
       let n = length-take from xs in
       let v : k < from = omega arith in
-      rw (get_or-take from xs k d v) (not_lo area (get_or xs k d) (lo_before k d v)))
+      rw (get_or-take from xs k d v) (not_lo raw_box (get_or xs k d) (lo_before k d v)))
       (λ k d w.
       let n = length-drop to xs in
-      rw (get_or-drop to xs k d) (not_hi area (get_or xs (to + k) d) (hi_after (to + k) d (omega arith) (omega arith))))
-      ∙ filter_same (in_box area) (has_time area) (in_order down m)
-      (all_in_order (λ x. in_box area x ≡ has_time area x) down m
+      rw (get_or-drop to xs k d) (not_hi raw_box (get_or xs (to + k) d) (hi_after (to + k) d (omega arith) (omega arith))))
+      ∙ filter_same (in_box raw_box) (has_time raw_box) (in_order down m)
+      (all_in_order (λ x. in_box raw_box x ≡ has_time raw_box x) down m
       (λ k d w.
       let n = length-take (to - from) (drop from xs) in
       let l = length-drop from xs in
@@ -139,10 +139,10 @@ module _ (area : RawBox) (xs : List Record) (from to : ℕ)
       rw (get_or-take (to - from) (drop from xs) k d v, get_or-drop from xs k d)
       (meets (get_or xs (from + k) d) (lo_after (from + k) d (omega arith) (omega arith)) (hi_before (from + k) d (omega arith)))))
 
-  pub box_none : (down : Bool) → to ≤ from → filter (in_box area) (in_order down xs) ≡ []
-  box_none down h = filter_none (in_box area) (in_order down xs) (all_in_order (λ x. in_box area x ≡ false) down xs (λ k d w. elim (cases_lt k from) [
-    | inl low ↦ not_lo area (get_or xs k d) (lo_before k d low)
-    | inr up ↦ not_hi area (get_or xs k d) (hi_after k d (omega arith) w)
+  pub box_none : (down : Bool) → to ≤ from → filter (in_box raw_box) (in_order down xs) ≡ []
+  box_none down h = filter_none (in_box raw_box) (in_order down xs) (all_in_order (λ x. in_box raw_box x ≡ false) down xs (λ k d w. elim (cases_lt k from) [
+    | inl low ↦ not_lo raw_box (get_or xs k d) (lo_before k d low)
+    | inr up ↦ not_hi raw_box (get_or xs k d) (hi_after k d (omega arith) w)
   ]))
 
 -- a run of records that are kept, and the one behind it that is not

@@ -1,10 +1,11 @@
 -- Leads are in the order of their keys.
-use Rattle.std.proofs.Common.{◌≡◌, ℕ, zero, suc, ◌+◌, ◌*◌, ◌^◌, ◌<◌, ◌≤◌, true, List, [], ◌∷◌, length, get_or, insert, refl, sym, ap, subst, ◌∙◌, arith, Ordering, Less, Equal, Greater}
+use Rattle.std.proofs.Common.{◌≡◌, ℕ, zero, suc, ◌+◌, ◌-◌, ◌*◌, ◌^◌, ◌<◌, ◌≤◌, true, List, [], ◌∷◌, length, get_or, insert, refl, sym, ap, subst, ◌∙◌, arith, Ordering, Less, Equal, Greater}
+use Rattle.std.specs.Int.{w128, sum_through, byte_worth, from_be_bytes}
 use Rattle.std.specs.List.{All}
 use Rattle.std.specs.Ordering.{is_lt, nat_cmp, ordering_then, MatchOrdering}
 use Rattle.std.specs.Cmp.{ranks}
 use Rattle.std.specs.Cmp.Lexicographic.{slice_cmp}
-use Rattle.std.proofs.Math.Nat.{pow-suc, pow-le-pow_right}
+use Rattle.std.proofs.Math.Nat.{pow-suc}
 use Rattle.std.proofs.lemmas.Nat.{mul-le}
 use Rattle.std.proofs.lemmas.List.Elements.{All-head, All-tail}
 use Rattle.std.proofs.lemmas.List.{get_or_default}
@@ -64,10 +65,6 @@ lead_less (suc n) (x ∷ xs) (y ∷ ys) bytes lt =
     let tail = All-tail (λ k. k < 256) y ys bytes in
     digit_less x y (256 ^ n) (lead_of n xs) (lead_of n ys) (nat_cmp x y) (slice_cmp nat_cmp xs ys) (ranks x y) (lead_bound n ys tail) lt (lead_less n xs ys tail)
 
--- one digit more, as a loop adds it
-pub lead_step : (n : ℕ) (key : List ℕ) → lead_of (n + 1) key ≡ lead_of n key * 256 + get_or key n 0
-lead_step n key = let s : n + 1 ≡ suc n = omega arith in ap (λ k. lead_of k key) s ∙ lead_more n key
-
 pub are_bytes : (key : List ℕ) → ((i : ℕ) → get_or key i 0 < 256) → AreBytes key
 are_bytes key fits k d w = let h = fits k in subst (λ b. b < 256) (get_or_default key k 0 d w) h
 
@@ -77,13 +74,35 @@ lead_put xs zero r lead new within was first later = first refl
 lead_put [] (suc k) r lead new within was first later = absurd (omega arith)
 lead_put (x ∷ xs) (suc k) r lead new within was first later = subst (IsLead x.key) (sym (later (omega arith))) was
 
--- a digit more fits as long as there are fewer than sixteen
-pub lead_fits : (n lead : ℕ) (key : List ℕ) → n < 16 → AreBytes key → lead ≡ lead_of n key → lead * 256 + get_or key n 0 < 2 ^ 128
-lead_fits n lead key few bytes is =
-    let more = lead_more n key in
-    let bound = lead_bound (suc n) key bytes in
-    let some : 0 < 256 = omega arith in
-    let few_more : suc n ≤ 16 = omega arith in
-    let most : 256 ^ suc n ≤ 256 ^ 16 = pow-le-pow_right some few_more in
-    let same = ap (λ k. k * 256) is in
-    omega arith
+worth : (i b : ℕ) → byte_worth i b ≡ b * 256 ^ i
+worth zero b = omega arith
+worth (suc i) b = refl
+
+lead_zero : (key : List ℕ) → lead_of 0 key ≡ 0
+unfolding lead_of
+lead_zero key = refl
+
+digit_down : (l d p : ℕ) → l * (p * 256) + d * p ≡ (l * 256 + d) * p
+digit_down l d p = grind arith
+
+-- the digits of a number of sixteen bytes, added up from the highest on
+digits_sum : (bs key : List ℕ) → ((i : ℕ) → i < 16 → get_or bs i 0 ≡ get_or key i 0) → (n : ℕ) → n < 16 → sum_through (λ i. byte_worth (15 - i) (get_or bs i 0)) n ≡ lead_of (suc n) key * 256 ^ (15 - n)
+digits_sum bs key same zero few =
+    let first : lead_of 1 key ≡ get_or key 0 0 = lead_more 0 key ∙ ap (λ l. l * 256 + get_or key 0 0) (lead_zero key) ∙ omega arith in
+    worth 15 (get_or bs 0 0) ∙ ap (λ b. b * 256 ^ 15) (same 0 (omega arith) ∙ sym first)
+digits_sum bs key same (suc n) few =
+    let d = get_or key (suc n) 0 in
+    let l = lead_of (suc n) key in
+    let p = 256 ^ (15 - suc n) in
+    let up : 15 - n ≡ suc (15 - suc n) = omega arith in
+    let power : 256 ^ (15 - n) ≡ p * 256 = ap (λ k. 256 ^ k) up ∙ pow-suc 256 (15 - suc n) in
+    let here : byte_worth (15 - suc n) (get_or bs (suc n) 0) ≡ d * p = worth (15 - suc n) (get_or bs (suc n) 0) ∙ ap (λ b. b * p) (same (suc n) few) in
+    let before : sum_through (λ i. byte_worth (15 - i) (get_or bs i 0)) n ≡ l * (p * 256) = digits_sum bs key same n (omega arith) ∙ ap (λ q. l * q) power in
+    (λ i. before i + here i) ∙ digit_down l d p ∙ ap (λ m. m * p) (sym (lead_more (suc n) key))
+
+-- sixteen bytes read as a number are a lead, where the key has the same bytes or has ended and they are 0
+pub lead_read : (bs key : List ℕ) (n : ℕ) → ((i : ℕ) → i < 16 → get_or bs i 0 ≡ get_or key i 0) → n ≡ from_be_bytes w128 bs → ((i : ℕ) → get_or key i 0 < 256) → IsLead key n
+lead_read bs key n same read fits = record {
+  value = read ∙ digits_sum bs key same 15 (omega arith) ∙ omega arith;
+  bytes = are_bytes key fits;
+}

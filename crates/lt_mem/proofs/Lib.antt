@@ -9,3 +9,4 @@ mod Kept
 mod Reading
 mod Filtered
 mod Growth
+mod Sorted

@@ -61,13 +61,13 @@ pub record IsSummed (recs : List Record) (lead : ℕ) (leads : List ℕ) (low hi
 
 -- the record's timestamp is one of the box's times
 abbrev pub has_time : RawBox → Record → Bool
-has_time area r = nat_le area.from r.ts && nat_le r.ts area.to
+has_time raw_box r = nat_le raw_box.from r.ts && nat_le r.ts raw_box.to
 
 abbrev pub AllHaveTime : RawBox → List Record → Type 0
-AllHaveTime area recs = All (λ r. has_time area r ≡ true) recs
+AllHaveTime raw_box recs = All (λ r. has_time raw_box r ≡ true) recs
 
 abbrev pub NoneHasTime : RawBox → List Record → Type 0
-NoneHasTime area recs = All (λ r. has_time area r ≡ false) recs
+NoneHasTime raw_box recs = All (λ r. has_time raw_box r ≡ false) recs
 
 -- the keys of all records, or of none, lie below the cut
 abbrev pub AllBelow : Cut → List Record → Type 0
@@ -78,13 +78,13 @@ NoneBelow cut recs = All (λ r. is_below cut r.key ≡ false) recs
 
 -- the keys of all records, or of none, meet a bound of the box
 abbrev pub AllMeetLo : RawBox → List Record → Type 0
-AllMeetLo area recs = All (λ r. meets_lo area.lo r.key ≡ true) recs
+AllMeetLo raw_box recs = All (λ r. meets_lo raw_box.lo r.key ≡ true) recs
 
 abbrev pub NoneMeetsLo : RawBox → List Record → Type 0
-NoneMeetsLo area recs = All (λ r. meets_lo area.lo r.key ≡ false) recs
+NoneMeetsLo raw_box recs = All (λ r. meets_lo raw_box.lo r.key ≡ false) recs
 
 abbrev pub AllMeetHi : RawBox → List Record → Type 0
-AllMeetHi area recs = All (λ r. meets_hi area.hi r.key ≡ true) recs
+AllMeetHi raw_box recs = All (λ r. meets_hi raw_box.hi r.key ≡ true) recs
 
 abbrev pub NoneMeetsHi : RawBox → List Record → Type 0
-NoneMeetsHi area recs = All (λ r. meets_hi area.hi r.key ≡ false) recs
+NoneMeetsHi raw_box recs = All (λ r. meets_hi raw_box.hi r.key ≡ false) recs

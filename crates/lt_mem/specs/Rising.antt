@@ -54,6 +54,10 @@ pub record IsKept (recs : List Record) (numbers times : Option (ℕ × ℕ)) (si
   pub span : SpansOf (λ r. r.ts) recs times
   pub bytes : size ≡ all_stored recs
 
+-- each key is read before all later ones: it is the less or, where reading goes down, the greater
+abbrev pub IsInOrder : Bool → List Record → Type 0
+IsInOrder down recs = AllPairs (λ early late. (if down then is_less late.key early.key else is_less early.key late.key) ≡ true) recs
+
 -- in the order of reading
 abbrev pub in_order : Bool → List Record → List Record
 in_order down recs = if down then reverse recs else recs

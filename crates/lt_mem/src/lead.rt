@@ -1,25 +1,26 @@
-ghost use Rattle.std.specs.Prelude.{◌≡◌, slice_index_or};
+ghost use Rattle.std.specs.Prelude.{◌≡◌, ℕ, ◌<◌, ◌≤◌, length, slice_index};
 ghost use Rattle.lt_mem.specs.Lead.{IsLead};
 
-/// How many bytes of a key its lead has.
+/// How many bytes of a key its lead has: sixteen and not eight, since a table's keys often begin with the same bytes.
 const DIGITS: usize = 16;
 
 /// The key's first bytes as a number. Of two keys the one with the smaller lead is the smaller.
 pub fn lead_of(key: &[u8]) -> u128
     ensures { IsLead key.now result }
 {
-    let mut lead: u128 = 0;
-    for place in 0..DIGITS {
-        lead = lead * 256 + digit_at(key, place);
+    match key.first_chunk::<DIGITS>() {
+        Some(first) => u128::from_be_bytes(*first),
+        None => u128::from_be_bytes(padded(key)),
     }
-    lead
 }
 
-fn digit_at(key: &[u8], place: usize) -> u128
-    ensures { result ≡ slice_index_or key.now place 0 }
+/// A short key's bytes, and zeros behind them.
+fn padded(key: &[u8]) -> [u8; DIGITS]
+    requires { length key.now ≤ 16 }
+    ensures { (i : ℕ) → slice_index result i ≡ slice_index key.now i }
 {
-    match key.get(place) {
-        Some(byte) => u128::from(*byte),
-        None => 0,
-    }
+    let mut bytes = [0; DIGITS];
+    let (front, _) = bytes.split_at_mut(key.len());
+    front.copy_from_slice(key);
+    bytes
 }

@@ -15,6 +15,3 @@ mod walk;
 
 pub use add_error::AddError;
 pub use tablet::MemTablet;
-
-#[cfg(test)]
-mod tests;

@@ -12,7 +12,7 @@ use std::marker::Model;
 use std::sync::Arc;
 
 /// How many records a full vector makes room for at a time, so that little memory stays unused.
-const GROWTH: usize = 128;
+const GROWTH: usize = 32;
 
 /// Neighbouring records, which lists of records may share, the leads of their keys, the first of them apart, and two
 /// timestamps that theirs lie between. Contracts see the list.
@@ -112,28 +112,29 @@ impl Piece {
     }
 
     /// Whether the box surely has all of the timestamps.
-    pub fn lies_in(&self, area: &RawBox) -> bool
-        ensures { result ≡ true → AllHaveTime area.now self.now }
+    pub fn lies_in(&self, raw_box: &RawBox) -> bool
+        ensures { result ≡ true → AllHaveTime raw_box.now self.now }
     {
-        area.from <= self.earliest && self.latest <= area.to
+        raw_box.from <= self.earliest && self.latest <= raw_box.to
     }
 
     /// Whether the box surely has none of the timestamps.
-    pub fn misses(&self, area: &RawBox) -> bool
-        ensures { result ≡ true → NoneHasTime area.now self.now }
+    pub fn misses(&self, raw_box: &RawBox) -> bool
+        ensures { result ≡ true → NoneHasTime raw_box.now self.now }
     {
-        self.latest < area.from || area.to < self.earliest
+        self.latest < raw_box.from || raw_box.to < self.earliest
     }
 
-    /// Puts the record at this place. Where a list shares these records, they are copied first, and the list keeps its own.
-    pub fn insert(&mut self, place: usize, rec: Rec) -> Result<(), Rec>
+    /// Puts the record, with its key's lead, at this place. Where a list shares these records, they are copied first, and the
+    /// list keeps its own.
+    pub fn insert(&mut self, place: usize, lead: u128, rec: Rec) -> Result<(), Rec>
         requires within { place ≤ length self.old }
+        requires lead { IsLead rec.key lead }
         ensures ok { OnOk result (self.new ≡ insert self.old place rec) }
         ensures unchanged { OnErr result (self.new ≡ self.old) }
         ensures handed_back { IfErr result (λ refused. refused ≡ rec) }
     {
         let ts = rec.ts();
-        let lead = lead_of(rec.key());
         if place_in_vec(&mut self.leads, place, lead).is_err() {
             return Err(rec);
         }

@@ -4,6 +4,7 @@ ghost use Rattle.lt_rec.specs.Boxes.{in_box};
 
 use crate::AddError;
 use crate::growing::Growing;
+use crate::lead::lead_of;
 use crate::piece::Piece;
 use crate::search::find;
 use crate::store::{begin, put_at};
@@ -49,7 +50,7 @@ impl Pieces {
         if self.pieces.as_slice().is_empty() {
             return None;
         }
-        match find(self.pieces.as_slice(), key) {
+        match find(self.pieces.as_slice(), key, lead_of(key)) {
             Ok((at, place)) => {
                 let piece = &self.pieces[at];
                 let recs = piece.as_slice();
@@ -60,11 +61,11 @@ impl Pieces {
     }
 
     /// The first records of the box in the order of reading, `limit` of them or all. Copies pointers and no record.
-    pub fn walk(&self, area: &RawBox, down: bool, limit: usize) -> Result<RecList, NoMemory>
-        ensures { IfOk result (λ list. list ≡ take limit (filter (in_box area.now) (in_order down self.now))) }
+    pub fn walk(&self, raw_box: &RawBox, down: bool, limit: usize) -> Result<RecList, NoMemory>
+        ensures { IfOk result (λ list. list ≡ take limit (filter (in_box raw_box.now) (in_order down self.now))) }
     {
         let mut found = Growing::new(*self.pieces.allocator(), limit);
-        walk_pieces(self.pieces.as_slice(), area, down, &mut found)?;
+        walk_pieces(self.pieces.as_slice(), raw_box, down, &mut found)?;
         found.into_list()
     }
 
@@ -80,14 +81,15 @@ impl Pieces {
         if self.pieces.as_slice().is_empty() {
             return begin(&mut self.pieces, rec).map_err(|rec| (rec, AddError::NoMemory));
         }
-        match find(self.pieces.as_slice(), rec.key()) {
+        let lead = lead_of(rec.key());
+        match find(self.pieces.as_slice(), rec.key(), lead) {
             Ok((at, place)) => {
                 let piece = &self.pieces[at];
                 let recs = piece.as_slice();
                 let seq = recs[place].seq();
                 Err((rec, AddError::Present { seq }))
             }
-            Err((at, place)) => match put_at(&mut self.pieces, at, place, rec) {
+            Err((at, place)) => match put_at(&mut self.pieces, at, place, lead, rec) {
                 Ok(()) => Ok(()),
                 Err(rec) => Err((rec, AddError::NoMemory)),
             },

@@ -50,26 +50,26 @@ fn begun(pieces: &[Piece], cut: &Cut) -> usize
 }
 
 /// The first piece that may have keys from the lower bound on.
-pub fn first_of(pieces: &[Piece], area: &RawBox) -> usize
+pub fn first_of(pieces: &[Piece], raw_box: &RawBox) -> usize
     requires lined { AreLined pieces.now }
     ensures within { result ≤ length pieces.now }
-    ensures before { (k : ℕ) → k < result → NoneMeetsLo area.now (piece_at pieces.now k) }
-    ensures after { (k : ℕ) → result < k → k < length pieces.now → AllMeetLo area.now (piece_at pieces.now k) }
+    ensures before { (k : ℕ) → k < result → NoneMeetsLo raw_box.now (piece_at pieces.now k) }
+    ensures after { (k : ℕ) → result < k → k < length pieces.now → AllMeetLo raw_box.now (piece_at pieces.now k) }
 {
-    match &area.lo {
+    match &raw_box.lo {
         Some(cut) => begun(pieces, cut).saturating_sub(1),
         None => 0,
     }
 }
 
 /// One after the last piece that may have keys below the upper bound.
-pub fn end_of(pieces: &[Piece], area: &RawBox) -> usize
+pub fn end_of(pieces: &[Piece], raw_box: &RawBox) -> usize
     requires lined { AreLined pieces.now }
     ensures within { result ≤ length pieces.now }
-    ensures before { (k : ℕ) → k + 1 < result → AllMeetHi area.now (piece_at pieces.now k) }
-    ensures after { (k : ℕ) → result ≤ k → k < length pieces.now → NoneMeetsHi area.now (piece_at pieces.now k) }
+    ensures before { (k : ℕ) → k + 1 < result → AllMeetHi raw_box.now (piece_at pieces.now k) }
+    ensures after { (k : ℕ) → result ≤ k → k < length pieces.now → NoneMeetsHi raw_box.now (piece_at pieces.now k) }
 {
-    match &area.hi {
+    match &raw_box.hi {
         Some(cut) => begun(pieces, cut),
         None => pieces.len(),
     }
@@ -97,34 +97,34 @@ fn below(recs: &[Rec], cut: &Cut) -> usize
 }
 
 /// The first record from the lower bound on. Where it is known that all are, no key is looked at.
-pub fn from_of(recs: &[Rec], area: &RawBox, known: bool) -> usize
+pub fn from_of(recs: &[Rec], raw_box: &RawBox, known: bool) -> usize
     requires rising { IsRising recs.now }
-    requires known { known ≡ true → AllMeetLo area.now recs.now }
+    requires known { known ≡ true → AllMeetLo raw_box.now recs.now }
     ensures within { result ≤ length recs.now }
-    ensures before { (k : ℕ) (d : Record) → k < result → meets_lo area.now.lo (slice_index_or recs.now k d).key ≡ false }
-    ensures after { (k : ℕ) (d : Record) → result ≤ k → k < length recs.now → meets_lo area.now.lo (slice_index_or recs.now k d).key ≡ true }
+    ensures before { (k : ℕ) (d : Record) → k < result → meets_lo raw_box.now.lo (slice_index_or recs.now k d).key ≡ false }
+    ensures after { (k : ℕ) (d : Record) → result ≤ k → k < length recs.now → meets_lo raw_box.now.lo (slice_index_or recs.now k d).key ≡ true }
 {
     if known {
         return 0;
     }
-    match &area.lo {
+    match &raw_box.lo {
         Some(cut) => below(recs, cut),
         None => 0,
     }
 }
 
 /// One after the last record below the upper bound. Where it is known that all are, no key is looked at.
-pub fn to_of(recs: &[Rec], area: &RawBox, known: bool) -> usize
+pub fn to_of(recs: &[Rec], raw_box: &RawBox, known: bool) -> usize
     requires rising { IsRising recs.now }
-    requires known { known ≡ true → AllMeetHi area.now recs.now }
+    requires known { known ≡ true → AllMeetHi raw_box.now recs.now }
     ensures within { result ≤ length recs.now }
-    ensures before { (k : ℕ) (d : Record) → k < result → meets_hi area.now.hi (slice_index_or recs.now k d).key ≡ true }
-    ensures after { (k : ℕ) (d : Record) → result ≤ k → k < length recs.now → meets_hi area.now.hi (slice_index_or recs.now k d).key ≡ false }
+    ensures before { (k : ℕ) (d : Record) → k < result → meets_hi raw_box.now.hi (slice_index_or recs.now k d).key ≡ true }
+    ensures after { (k : ℕ) (d : Record) → result ≤ k → k < length recs.now → meets_hi raw_box.now.hi (slice_index_or recs.now k d).key ≡ false }
 {
     if known {
         return recs.len();
     }
-    match &area.hi {
+    match &raw_box.hi {
         Some(cut) => below(recs, cut),
         None => recs.len(),
     }

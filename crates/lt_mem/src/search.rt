@@ -6,7 +6,6 @@ ghost use Rattle.lt_mem.specs.Lead.{IsLead, AreLeads};
 ghost use Rattle.lt_mem.specs.Rising.{IsRising};
 ghost use Rattle.lt_mem.specs.Pieces.{first_key, piece_at, AreLined, IsFound, IsGap, IsUpTo, NoneIsEmpty};
 
-use crate::lead::lead_of;
 use crate::piece::Piece;
 use lt_rec::Rec;
 use std::cmp::Ordering;
@@ -103,14 +102,14 @@ pub fn piece_for(pieces: &[Piece], key: &[u8], lead: u128) -> usize
     low
 }
 
-/// The piece and the place in it where the record of this key stands, or else where it would.
-pub fn find(pieces: &[Piece], key: &[u8]) -> Result<(usize, usize), (usize, usize)>
+/// The piece and the place in it where the record of this key, whose lead this is, stands, or else where it would.
+pub fn find(pieces: &[Piece], key: &[u8], lead: u128) -> Result<(usize, usize), (usize, usize)>
     requires lined { AreLined pieces.now }
+    requires lead { IsLead key.now lead }
     requires held { 0 < length pieces.now }
     ensures found { IfOk result (λ at. IsFound pieces.now key.now at.0 at.1) }
     ensures gap { IfErr result (λ at. IsGap pieces.now key.now at.0 at.1) }
 {
-    let lead = lead_of(key);
     let at = piece_for(pieces, key, lead);
     let piece = &pieces[at];
     match place_in(piece.as_slice(), piece.leads(), key, lead) {

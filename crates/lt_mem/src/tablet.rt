@@ -1,6 +1,6 @@
 ghost use Rattle.std.specs.Prelude.{◌≡◌, ◌+◌, ◌^◌, ◌<◌, [], OnOk, OnErr, IfOk, IfErr, IfSome, IfNone, Contains, filter, take};
 ghost use Rattle.lt_rec.specs.Record.{stored_len};
-ghost use Rattle.lt_mem.specs.Rising.{IsRising, NoneHas, Gains, Refuses, SpansOf, all_stored, in_order, widened_by};
+ghost use Rattle.lt_mem.specs.Rising.{IsRising, IsInOrder, NoneHas, Gains, Refuses, SpansOf, all_stored, in_order, widened_by};
 ghost use Rattle.lt_rec.specs.Boxes.{in_box};
 
 use crate::AddError;
@@ -79,10 +79,11 @@ impl MemTablet {
 
     /// The first records of the box in the order of their keys or, with `down`, the other way round; `limit` of them or all.
     /// Copies pointers and no record.
-    pub fn walk(&self, area: &RawBox, down: bool, limit: u64) -> Result<RecList, NoMemory>
-        ensures { IfOk result (λ list. list ≡ take limit (filter (in_box area.now) (in_order down self.now))) }
+    pub fn walk(&self, raw_box: &RawBox, down: bool, limit: u64) -> Result<RecList, NoMemory>
+        ensures exact { IfOk result (λ list. list ≡ take limit (filter (in_box raw_box.now) (in_order down self.now))) }
+        ensures sorted { IfOk result (λ list. IsInOrder down list) }
     {
-        self.pieces.walk(area, down, limit as usize)
+        self.pieces.walk(raw_box, down, limit as usize)
     }
 
     /// The least and the greatest number; `None` exactly where there is no record. Takes no memory.

@@ -8,25 +8,25 @@ use crate::growing::Growing;
 use lt_rec::{Chunk, NoMemory, RawBox, Rec};
 
 /// Whether the box has the timestamp of the record that is read as number `step`.
-fn timed_at(recs: &[Rec], step: usize, area: &RawBox, down: bool) -> bool
+fn timed_at(recs: &[Rec], step: usize, raw_box: &RawBox, down: bool) -> bool
     requires { step < length recs.now }
-    ensures { (d : Record) → result ≡ has_time area.now (slice_index_or (in_order down recs.now) step d) }
+    ensures { (d : Record) → result ≡ has_time raw_box.now (slice_index_or (in_order down recs.now) step d) }
 {
     let at = if down { recs.len() - 1 - step } else { step };
     let rec = &recs[at];
-    area.from <= rec.ts() && rec.ts() <= area.to
+    raw_box.from <= rec.ts() && rec.ts() <= raw_box.to
 }
 
 /// Where the run of records with a timestamp of the box ends, from `start` on.
-fn run_end(recs: &[Rec], start: usize, area: &RawBox, down: bool) -> usize
+fn run_end(recs: &[Rec], start: usize, raw_box: &RawBox, down: bool) -> usize
     requires { start ≤ length recs.now }
     ensures forward { start ≤ result }
     ensures within { result ≤ length recs.now }
-    ensures timed { (k : ℕ) (d : Record) → start ≤ k → k < result → has_time area.now (slice_index_or (in_order down recs.now) k d) ≡ true }
-    ensures ends { (d : Record) → result < length recs.now → has_time area.now (slice_index_or (in_order down recs.now) result d) ≡ false }
+    ensures timed { (k : ℕ) (d : Record) → start ≤ k → k < result → has_time raw_box.now (slice_index_or (in_order down recs.now) k d) ≡ true }
+    ensures ends { (d : Record) → result < length recs.now → has_time raw_box.now (slice_index_or (in_order down recs.now) result d) ≡ false }
 {
     let mut end = start;
-    while end < recs.len() && timed_at(recs, end, area, down) {
+    while end < recs.len() && timed_at(recs, end, raw_box, down) {
         end += 1;
     }
     end
@@ -36,16 +36,16 @@ fn run_end(recs: &[Rec], start: usize, area: &RawBox, down: bool) -> usize
 pub fn add_timed(
     recs: &[Rec],
     chunk: &Chunk,
-    area: &RawBox,
+    raw_box: &RawBox,
     down: bool,
     found: &mut Growing,
 ) -> Result<(), NoMemory>
     requires same { chunk.now ≡ in_order down recs.now }
-    ensures { OnOk result (found.new ≡ grown found.old (filter (has_time area.now) chunk.now)) }
+    ensures { OnOk result (found.new ≡ grown found.old (filter (has_time raw_box.now) chunk.now)) }
 {
     let mut start = 0;
     while start < recs.len() && !found.is_full() {
-        let end = run_end(recs, start, area, down);
+        let end = run_end(recs, start, raw_box, down);
         if start < end {
             found.add(chunk.cut(start, end)?)?;
         }

@@ -17,24 +17,24 @@ fn walk_run(
     held: &Piece,
     from: usize,
     to: usize,
-    area: &RawBox,
+    raw_box: &RawBox,
     down: bool,
     found: &mut Growing,
 ) -> Result<(), NoMemory>
     requires ordered { from ≤ to }
     requires within { to ≤ length held.now }
-    ensures { OnOk result (found.new ≡ grown found.old (filter (has_time area.now) (piece held.now from to down))) }
+    ensures { OnOk result (found.new ≡ grown found.old (filter (has_time raw_box.now) (piece held.now from to down))) }
 {
-    if held.misses(area) {
+    if held.misses(raw_box) {
         return Ok(());
     }
     let run = held.share(from, to, down)?;
-    if held.lies_in(area) {
+    if held.lies_in(raw_box) {
         return found.add(run);
     }
     let (front, _) = held.as_slice().split_at(to);
     let (_, recs) = front.split_at(from);
-    add_timed(recs, &run, area, down, found)
+    add_timed(recs, &run, raw_box, down, found)
 }
 
 /// Adds the piece's records that lie in the box. Keys are looked at where it isn't known that all meet a bound.
@@ -42,35 +42,35 @@ fn walk_piece(
     held: &Piece,
     meets_lo: bool,
     meets_hi: bool,
-    area: &RawBox,
+    raw_box: &RawBox,
     down: bool,
     found: &mut Growing,
 ) -> Result<(), NoMemory>
     requires rising { IsRising held.now }
-    requires lo { meets_lo ≡ true → AllMeetLo area.now held.now }
-    requires hi { meets_hi ≡ true → AllMeetHi area.now held.now }
-    ensures { OnOk result (found.new ≡ grown found.old (filter (in_box area.now) (in_order down held.now))) }
+    requires lo { meets_lo ≡ true → AllMeetLo raw_box.now held.now }
+    requires hi { meets_hi ≡ true → AllMeetHi raw_box.now held.now }
+    ensures { OnOk result (found.new ≡ grown found.old (filter (in_box raw_box.now) (in_order down held.now))) }
 {
     let recs = held.as_slice();
-    let from = from_of(recs, area, meets_lo);
-    let to = to_of(recs, area, meets_hi);
+    let from = from_of(recs, raw_box, meets_lo);
+    let to = to_of(recs, raw_box, meets_hi);
     if from >= to {
         return Ok(());
     }
-    walk_run(held, from, to, area, down, found)
+    walk_run(held, from, to, raw_box, down, found)
 }
 
 /// Adds the records of the box. All pieces but the first meet its lower bound, and all but the last its upper one.
 fn walk_between(
     pieces: &[Piece],
-    area: &RawBox,
+    raw_box: &RawBox,
     down: bool,
     found: &mut Growing,
 ) -> Result<(), NoMemory>
     requires rising { EachRises pieces.now }
-    requires lo { (k : ℕ) → 0 < k → k < length pieces.now → AllMeetLo area.now (piece_at pieces.now k) }
-    requires hi { (k : ℕ) → k + 1 < length pieces.now → AllMeetHi area.now (piece_at pieces.now k) }
-    ensures { OnOk result (found.new ≡ grown found.old (filter (in_box area.now) (in_order down (joined pieces.now)))) }
+    requires lo { (k : ℕ) → 0 < k → k < length pieces.now → AllMeetLo raw_box.now (piece_at pieces.now k) }
+    requires hi { (k : ℕ) → k + 1 < length pieces.now → AllMeetHi raw_box.now (piece_at pieces.now k) }
+    ensures { OnOk result (found.new ≡ grown found.old (filter (in_box raw_box.now) (in_order down (joined pieces.now)))) }
 {
     let count = pieces.len();
     for step in 0..count {
@@ -78,14 +78,14 @@ fn walk_between(
             return Ok(());
         }
         let at = if down { count - 1 - step } else { step };
-        walk_piece(&pieces[at], at > 0, at + 1 < count, area, down, found)?;
+        walk_piece(&pieces[at], at > 0, at + 1 < count, raw_box, down, found)?;
     }
     Ok(())
 }
 
 /// In how many pieces, about, so many records lie: a piece that was split has half of a full one's, or more.
 fn most_pieces(count: usize) -> usize
-    ensures { result ≡ count / 256 + 2 }
+    ensures { result ≡ count / 64 + 2 }
 {
     count / (FULL / 2) + 2
 }
@@ -93,17 +93,17 @@ fn most_pieces(count: usize) -> usize
 /// Adds the records of the box, in the order of reading. Pieces that its keys don't reach are not looked at.
 pub fn walk_pieces(
     pieces: &[Piece],
-    area: &RawBox,
+    raw_box: &RawBox,
     down: bool,
     found: &mut Growing,
 ) -> Result<(), NoMemory>
     requires lined { AreLined pieces.now }
-    ensures { OnOk result (found.new ≡ grown found.old (filter (in_box area.now) (in_order down (joined pieces.now)))) }
+    ensures { OnOk result (found.new ≡ grown found.old (filter (in_box raw_box.now) (in_order down (joined pieces.now)))) }
 {
-    let end = end_of(pieces, area);
-    let first = first_of(pieces, area).min(end);
+    let end = end_of(pieces, raw_box);
+    let first = first_of(pieces, raw_box).min(end);
     let (front, _) = pieces.split_at(end);
     let (_, between) = front.split_at(first);
     found.reserve(between.len().min(most_pieces(found.left())))?;
-    walk_between(between, area, down, found)
+    walk_between(between, raw_box, down, found)
 }

@@ -11,8 +11,6 @@ mod handles;
 mod history;
 mod image;
 mod replay;
-#[cfg(test)]
-mod tests;
 
 pub use device::MemDevice;
 pub use dir::MemDir;

@@ -39,21 +39,21 @@ follows_later o before (e ∷ first) entries follows =
 
 -- the tests are the same, whatever entries there are
 abbrev is_durable : History → Durable → Numbered → Bool
-is_durable h durable numbered = nat_lt numbered.seq durable.upto && nat_le durable.low (time_in h numbered)
+is_durable h durable numbered = nat_lt numbered.seq durable.kept && nat_le durable.low (time_in h numbered)
 
-not_below : (seq upto : ℕ) → upto ≤ seq → nat_lt seq upto ≡ false
-not_below seq upto above = grind arith
+not_below : (seq number : ℕ) → number ≤ seq → nat_lt seq number ≡ false
+not_below seq number above = grind arith
 
-none_durable : (h : History) (durable : Durable) (xs : List Numbered) → AllByRecursion (λ (numbered : Numbered). durable.upto ≤ numbered.seq) xs → filter (is_durable h durable) xs ≡ []
+none_durable : (h : History) (durable : Durable) (xs : List Numbered) → AllByRecursion (λ (numbered : Numbered). durable.kept ≤ numbered.seq) xs → filter (is_durable h durable) xs ≡ []
 none_durable h durable [] all = refl
-none_durable h durable (numbered ∷ xs) all = rw (not_below numbered.seq durable.upto all.0) (none_durable h durable xs all.1)
+none_durable h durable (numbered ∷ xs) all = rw (not_below numbered.seq durable.kept all.0) (none_durable h durable xs all.1)
 
-same_rows : (k : ℕ) (h : History) (durable : Durable) → IsLegal h → durable.upto ≤ next (front k h) → durable_rows (front k h) durable ≡ durable_rows h durable
+same_rows : (k : ℕ) (h : History) (durable : Durable) → IsLegal h → durable.kept ≤ next (front k h) → durable_rows (front k h) durable ≡ durable_rows h durable
 same_rows k h durable legal below =
     let later = drop k h.entries in
     let cut : take k h.entries ++ later ≡ h.entries = take-append-drop k h.entries in
     let follows : EachFollows h.opening (take k h.entries) later = follows_later h.opening [] (take k h.entries) later (subst (EachFollows h.opening []) (sym cut) legal.follows) in
-    let none : filter (is_durable h durable) (rows_in later) ≡ [] = none_durable h durable (rows_in later) (numbered_from h.opening (take k h.entries) later durable.upto below follows) in
+    let none : filter (is_durable h durable) (rows_in later) ≡ [] = none_durable h durable (rows_in later) (numbered_from h.opening (take k h.entries) later durable.kept below follows) in
     let all : rows h ≡ rows (front k h) ++ rows_in later = ap (λ (es : List Entry). rows (record { opening = h.opening; entries = es })) (sym cut) ∙ rows-extended (front k h) later in
     sym (ap (filter (is_durable h durable)) all ∙ filter-append (is_durable h durable) (rows (front k h)) (rows_in later)
     ∙ ap (λ (xs : List Numbered). filter (is_durable h durable) (rows (front k h)) ++ xs) none ∙ append-nil (filter (is_durable h durable) (rows (front k h))))
@@ -61,7 +61,7 @@ same_rows k h durable legal below =
 with_rows : (g h : History) (durable : Durable) (found : Opening) → durable_rows g durable ≡ durable_rows h durable → IsCrash g durable found → IsCrash h durable found
 with_rows g h durable found same crash = record {
   schemas = crash.schemas;
-  life = crash.life;
+  ttl = crash.ttl;
   low = crash.low;
   next = crash.next;
   kept = crash.kept;

@@ -3,11 +3,11 @@ use Rattle.std.proofs.Common.{◌≡◌, inl, inr, ℕ, zero, suc, ◌<◌, ◌�
 use Rattle.std.specs.Prelude.{Some, None, IsSomeAnd, slice_get}
 use Rattle.std.proofs.lemmas.Bool.{cases_lt}
 use Rattle.std.proofs.lemmas.List.{length-append, append-nil}
-use Rattle.lt_lang.specs.declared.command.Command.{Command}
-use Rattle.lt_lang.specs.declared.command.Line.{Line}
-use Rattle.lt_lang.specs.declared.command.Line.TheVariants.{Skip, Bad, Command as CommandLine}
-use Rattle.lt_reply.specs.declared.reply.Reply.{Reply}
-use Rattle.lt_reply.specs.declared.reply.Reply.TheVariants.{BadLine}
+use Rattle.lt_command.specs.declared.command.Command.{Command}
+use Rattle.lt_command.specs.declared.command.Line.{Line}
+use Rattle.lt_command.specs.declared.command.Line.TheVariants.{Skip, Bad, Command as CommandLine}
+use Rattle.lt_command.specs.declared.reply.Reply.{Reply}
+use Rattle.lt_command.specs.declared.reply.Reply.TheVariants.{BadLine}
 use Rattle.lt_model.specs.History.{Entry, row_entry, bound_entry, schema_entry, kept_entry, History, front, extended}
 use Rattle.lt_model.specs.Legal.{IsLegal}
 use Rattle.lt_model.specs.Step.{IsStep}
@@ -51,10 +51,10 @@ pub LinesAnswered-more : (clock : ℕ → Type 0) (h : History) (seen : ℕ) (li
     → LinesAnswered clock h seen (lines ++ line ∷ []) (replies ++ reply ∷ []) (marks ++ mark ∷ [])
 LinesAnswered-more clock h seen [] [] [] line reply mark answered last = (last, tt)
 LinesAnswered-more clock h seen [] [] (first ∷ marks) line reply mark answered last = absurd answered
-LinesAnswered-more clock h seen [] (told ∷ replies) marks line reply mark answered last = absurd answered
+LinesAnswered-more clock h seen [] (said ∷ replies) marks line reply mark answered last = absurd answered
 LinesAnswered-more clock h seen (asked ∷ lines) [] marks line reply mark answered last = absurd answered
-LinesAnswered-more clock h seen (asked ∷ lines) (told ∷ replies) [] line reply mark answered last = absurd answered
-LinesAnswered-more clock h seen (asked ∷ lines) (told ∷ replies) (first ∷ marks) line reply mark answered last =
+LinesAnswered-more clock h seen (asked ∷ lines) (said ∷ replies) [] line reply mark answered last = absurd answered
+LinesAnswered-more clock h seen (asked ∷ lines) (said ∷ replies) (first ∷ marks) line reply mark answered last =
     (answered.0, LinesAnswered-more clock h (seen_after first) lines replies marks line reply mark answered.1 last)
 
 LieEndToEnd-more : (seen : ℕ) (marks : List Mark) (mark : Mark) → LieEndToEnd seen marks → mark.goes ≡ seen_after_all seen marks → LieEndToEnd seen (marks ++ mark ∷ [])
@@ -106,7 +106,7 @@ SoFar-bad clock began lines replies h client at so_far =
     let ends = length h.entries in
     subst (λ (g : History). SoFar clock began (lines ++ Bad client at ∷ []) (replies ++ BadLine at ∷ []) g) nothing
     (SoFar-answered clock began lines replies h (Bad client at) (BadLine at) (record { at = ends; goes = ends; added = []; now = 0 }) so_far refl
-    (record { told = refl; stays = (refl, refl) }) (rw nothing so_far.legal))
+    (record { reply_is = refl; stays = (refl, refl) }) (rw nothing so_far.legal))
 
 -- a session of nobody
 pub IsSession-nobody : (clock : ℕ → Type 0) (h : History) → IsLegal h → IsSession clock (length h.entries) [] [] h

@@ -46,13 +46,13 @@ KeysDiffer-more schema (first ∷ xs) x differ fresh = (
   KeysDiffer-more schema xs x differ.1 (λ other among. fresh other (Contains-append_right (first ∷ []) xs other among)),
 )
 
-bound_at-low : (life : Option ℕ) (bound now : ℕ) → bound ≤ bound_at life bound now
+bound_at-low : (ttl : Option ℕ) (bound now : ℕ) → bound ≤ bound_at ttl bound now
 bound_at-low None bound now = omega arith
-bound_at-low (Some life) bound now = le-max_left bound (now - life)
+bound_at-low (Some ttl) bound now = le-max_left bound (now - ttl)
 
 -- the bound at any moment is no lower than the greatest that was raised
 pub low-since : (h : History) (now : ℕ) → low h ≤ since h now
-low-since h now = bound_at-low h.opening.life (low h) now
+low-since h now = bound_at-low h.opening.ttl (low h) now
 
 -- an accepted row keeps it legal
 pub IsLegal-accepted : (h : History) (row : List Value) (now tablet : ℕ) → IsLegal h → IsVerdict h row now accepted

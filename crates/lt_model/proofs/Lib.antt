@@ -2,7 +2,6 @@ pub mod Fronts
 pub mod Lawful
 pub mod Growth
 pub mod Verdicts
-pub mod Tablets
 pub mod Shown
 pub mod Orders
 pub mod Singles

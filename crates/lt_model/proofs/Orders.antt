@@ -100,7 +100,7 @@ even_keys a b up down = go (key_cmp a b) refl up
     go Greater is below = cc
     go Less is below =
         let turned : Greater ≡ key_cmp b a = ap ordering_reverse (sym is) ∙ sym (key_cmp_total.antisymm b a) in
-        let told : IsTrue (is_le Greater) = subst (λ (o : Ordering). IsTrue (is_le o)) (sym turned) down in
+        let both : IsTrue (is_le Greater) = subst (λ (o : Ordering). IsTrue (is_le o)) (sym turned) down in
         cc
 
 row_below : (schema : SchemaShape) (down : Bool) (a b : List Value) → is_lt (row_cmp schema down b a) ≡ false → key_of schema a ≢ key_of schema b → row_cmp schema down a b ≡ Less

@@ -7,20 +7,20 @@ use Rattle.std.proofs.lemmas.Option.{slice_get_within}
 use Rattle.std.proofs.Math.Seq.{take-length}
 use Rattle.lt_schema.specs.declared.value.Value.{Value}
 use Rattle.lt_schema.specs.declared.change.Change.{Change}
-use Rattle.lt_lang.specs.declared.query.Query.{Query}
-use Rattle.lt_lang.specs.declared.command.Command.{Command}
-use Rattle.lt_lang.specs.declared.command.Command.TheVariants.{Insert, Scan, Latest as LatestCommand, Flush, Upkeep, Alter, Tablets}
-use Rattle.lt_lang.specs.declared.command.Line.{Line}
-use Rattle.lt_lang.specs.declared.command.Line.TheVariants.{Skip, Bad, Command as CommandLine}
-use Rattle.lt_reply.specs.declared.reply.Reply.{Reply}
-use Rattle.lt_reply.specs.declared.reply.Reply.TheVariants.{Inserted, BadRow, TooOld, Present, Spent, Rows, Latest, BadLimit, BadBound, Flushed, NoTablet, Upkept, Version, Refused, Tablets as TabletsReply, Damaged, Fault, NoMemory}
+use Rattle.lt_command.specs.declared.query.Query.{Query}
+use Rattle.lt_command.specs.declared.command.Command.{Command}
+use Rattle.lt_command.specs.declared.command.Command.TheVariants.{Insert, Scan, Latest as LatestCommand, Flush, Upkeep, Alter, Tablets}
+use Rattle.lt_command.specs.declared.command.Line.{Line}
+use Rattle.lt_command.specs.declared.command.Line.TheVariants.{Skip, Bad, Command as CommandLine}
+use Rattle.lt_command.specs.declared.reply.Reply.{Reply}
+use Rattle.lt_command.specs.declared.reply.Reply.TheVariants.{Inserted, BadRow, TooOld, Present, Spent, Rows, Latest, BadLimit, BadBound, Flushed, NoTablet, Upkept, Version, Refused, Tablets as TabletsReply, Damaged, Fault, NoMemory}
 use Rattle.lt_model.specs.History.{Numbered, Opening, Entry, row_entry, bound_entry, schema_entry, kept_entry, History, front}
 use Rattle.lt_schema.specs.Versions.{newest_version}
 use Rattle.lt_model.specs.Readings.{rows_in, next, schemas, since}
 use Rattle.lt_model.specs.Legal.{IsLegal, EachFollows, MayFollow}
-use Rattle.lt_model.specs.Step.{IsStep, InsertStep, ScanStep, LatestStep, AlterStep, FlushStep, Settles, UpkeepStep, MayPurge, TabletsStep, AddsRow}
+use Rattle.lt_model.specs.Step.{IsStep, InsertStep, ScanStep, LatestStep, AlterStep, FlushStep, TellsKept, UpkeepStep, MayPurge, TabletsStep, AddsRow}
 use Rattle.lt_model.specs.Session.{Mark, seen_after, Stand, IsSession, Client, Block, CommandAnswered, LineAnswered, LinesAnswered, ClientsAnswered, mark_of, Adds, AddedByOneLine, HasOrigin}
-use Rattle.lt_model.specs.Shown.{line_at, reply_at, Inserts, IsAdded, ToldToOneLine, IsGivenSince}
+use Rattle.lt_model.specs.Shown.{line_at, reply_at, Inserts, IsAdded, IsShownOnce, IsGivenSince}
 
 slice_get-drop : {X : Type 0} (n : ℕ) (xs : List X) (i : ℕ) → slice_get (drop n xs) i ≡ slice_get xs (n + i)
 slice_get-drop zero xs i = ap (slice_get xs) (omega arith)
@@ -180,14 +180,14 @@ no_row {P} e added i numbered tablet other only is = go i (sym is ∙ ap (λ (es
     go zero same = other cc
     go (suc j) same = cc
 
-Settles-no_row : {P : Type 0} (settled : History) (upto : ℕ) (added : List Entry) (i : ℕ) (numbered : Numbered) (tablet : ℕ) → Settles settled upto added
+TellsKept-no_row : {P : Type 0} (settled : History) (kept_after : ℕ) (added : List Entry) (i : ℕ) (numbered : Numbered) (tablet : ℕ) → TellsKept settled kept_after added
     → slice_get added i ≡ Some (row_entry numbered tablet) → P
-Settles-no_row settled upto added i numbered tablet (inl none) is = nothing_there added i (row_entry numbered tablet) none.1 is
-Settles-no_row settled upto added i numbered tablet (inr told) is = no_row (kept_entry upto) added i numbered tablet (λ same. cc) told.1 is
+TellsKept-no_row settled kept_after added i numbered tablet (inl none) is = nothing_there added i (row_entry numbered tablet) none.1 is
+TellsKept-no_row settled kept_after added i numbered tablet (inr raised) is = no_row (kept_entry kept_after) added i numbered tablet (λ same. cc) raised.1 is
 
 FlushStep-no_row : {P : Type 0} (decided settled : History) (which : Option ℕ) (reply : Reply) (added : List Entry) (i : ℕ) (numbered : Numbered) (tablet : ℕ) → FlushStep decided settled which reply added
     → slice_get added i ≡ Some (row_entry numbered tablet) → P
-FlushStep-no_row decided settled which (Flushed upto tablets) added i numbered tablet step is = Settles-no_row settled upto added i numbered tablet step.2 is
+FlushStep-no_row decided settled which (Flushed kept_after tablets) added i numbered tablet step is = TellsKept-no_row settled kept_after added i numbered tablet step.2 is
 FlushStep-no_row decided settled (Some one) (NoTablet named) added i numbered tablet step is = nothing_there added i (row_entry numbered tablet) step.2 is
 FlushStep-no_row decided settled which Spent added i numbered tablet step is = nothing_there added i (row_entry numbered tablet) step is
 FlushStep-no_row decided settled which Fault added i numbered tablet step is = nothing_there added i (row_entry numbered tablet) step is
@@ -357,7 +357,7 @@ inserts_by_line clock h clients blocks c l k seen (CommandLine client moment com
     let own : slice_get mark.added (k - mark.goes) ≡ Some (row_entry numbered tablet) =
     Stand-at h mark.goes mark.added (k - mark.goes) answered.stand (omega arith) ∙ ap (slice_get h.entries) place ∙ there in
     let one = IsStep-inserts (front mark.at h) (front mark.goes h) mark.now command reply mark.added (k - mark.goes) numbered tablet answered.step own in
-    record { name = client; moment = moment; asked = line_is ∙ ap (λ (asked : Command). Some (CommandLine client moment asked)) one.command_is; told = reply_is ∙ ap Some one.reply_is }
+    record { name = client; moment = moment; asked = line_is ∙ ap (λ (asked : Command). Some (CommandLine client moment asked)) one.command_is; answered = reply_is ∙ ap Some one.reply_is }
 
 inserts_by_mark : (clock : ℕ → Type 0) (h : History) (began : ℕ) (clients : List Client) (blocks : List Block) (marks : List (List Mark)) (c l k : ℕ) (numbered : Numbered) (tablet : ℕ)
     → ClientsAnswered clock h began clients blocks marks → Adds marks k c l → slice_get h.entries k ≡ Some (row_entry numbered tablet) → Inserts clients blocks c l numbered.row numbered.seq
@@ -407,7 +407,7 @@ no_other_line clock began clients blocks h session seq r one c l other inserts =
     one.no_other c l (subst (λ (entry : ℕ). Adds session.marks entry c l) same p.adds)
 
 pub numbers-shown : (clock : ℕ → Type 0) (began : ℕ) (clients : List Client) (blocks : List Block) (h : History) (seq : ℕ)
-    → IsSession clock began clients blocks h → IsGivenSince h began seq → ToldToOneLine clients blocks seq
+    → IsSession clock began clients blocks h → IsGivenSince h began seq → IsShownOnce clients blocks seq
 numbers-shown clock began clients blocks h seq session given =
     let r = given_row h began seq session.legal given in
     let within : r.place < length h.entries = slice_get_within h.entries r.place (row_entry r.numbered r.tablet) r.there in

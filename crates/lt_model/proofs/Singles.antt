@@ -16,7 +16,7 @@ use Rattle.lt_schema.specs.Lawful.{is_schema, is_time_column, names_differ, has_
 use Rattle.lt_schema.specs.Names.{is_name}
 use Rattle.lt_schema.specs.Versions.{lifted_over, changed, after_changes}
 use Rattle.lt_schema.specs.Check.{Passes, wrong_kind_from, length_fault, kind_fault, key_of}
-use Rattle.lt_lang.specs.declared.query.Query.{Query}
+use Rattle.lt_command.specs.declared.query.Query.{Query}
 use Rattle.lt_model.specs.History.{Numbered, Opening, Entry, row_entry, bound_entry, schema_entry, kept_entry, History}
 use Rattle.lt_model.specs.Readings.{rows, rows_in, schemas, key_in, time_in}
 use Rattle.lt_model.specs.Boxes.{in_box}
@@ -185,7 +185,7 @@ one_candidate test [] row none among candidate = omega arith
 one_candidate test (x ∷ xs) row none among candidate =
     let parts = not_none (test x) x (filter test xs) none in
     elim (Contains-cons_cases x xs row among) [
-      | inl same ↦ (let told : test row ≡ false = ap test (sym same) ∙ parts.0 in cc)
+      | inl same ↦ (let both : test row ≡ false = ap test (sym same) ∙ parts.0 in cc)
       | inr later ↦ one_candidate test xs row parts.1 later candidate
     ]
 

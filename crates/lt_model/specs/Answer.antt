@@ -7,7 +7,7 @@ use Rattle.lt_schema.specs.Shapes.{SchemaShape}
 use Rattle.lt_schema.specs.Values.{key_cmp, leading_cmp}
 use Rattle.lt_schema.specs.Versions.{lift_to_newest}
 use Rattle.lt_schema.specs.Check.{key_of}
-use Rattle.lt_lang.specs.declared.query.Query.{Query}
+use Rattle.lt_command.specs.declared.query.Query.{Query}
 use Rattle.lt_model.specs.History.{Numbered, History}
 use Rattle.lt_model.specs.Readings.{rows, schemas, key_in, time_in}
 use Rattle.lt_model.specs.Boxes.{in_box}

@@ -5,10 +5,10 @@ use Rattle.lt_schema.specs.declared.value.Value.{Value}
 use Rattle.lt_schema.specs.Shapes.{SchemaShape}
 use Rattle.lt_schema.specs.Values.{leading_cmp}
 use Rattle.lt_schema.specs.Check.{wrong_kind_from}
-use Rattle.lt_lang.specs.declared.query.Edge.{Edge}
-use Rattle.lt_lang.specs.declared.query.Query.{Query}
-use Rattle.lt_reply.specs.declared.bound_fault.BoundFault.{BoundFault}
-use Rattle.lt_reply.specs.declared.bound_fault.BoundFault.TheVariants.{Count, WrongKind}
+use Rattle.lt_command.specs.declared.query.Edge.{Edge}
+use Rattle.lt_command.specs.declared.query.Query.{Query}
+use Rattle.lt_command.specs.declared.bound_fault.BoundFault.{BoundFault}
+use Rattle.lt_command.specs.declared.bound_fault.BoundFault.TheVariants.{Count, WrongKind}
 use Rattle.lt_model.specs.History.{Numbered, History}
 use Rattle.lt_model.specs.Readings.{key_in, time_in}
 

@@ -8,19 +8,19 @@ use Rattle.lt_model.specs.Readings.{rows, time_in}
 -- each row is kept
 pub record Durable : Type 0 where
   pub schemas : SchemaVersions
-  pub life : Option ℕ
+  pub ttl : Option ℕ
   pub low : ℕ
-  pub upto : ℕ
+  pub kept : ℕ
 
 -- the history's rows that are numbered below that number and unexpired at that bound
 abbrev pub durable_rows : History → Durable → List Numbered
-durable_rows h durable = filter (λ numbered. nat_lt numbered.seq durable.upto && nat_le durable.low (time_in h numbered)) (rows h)
+durable_rows h durable = filter (λ numbered. nat_lt numbered.seq durable.kept && nat_le durable.low (time_in h numbered)) (rows h)
 
 -- what is found after a stop is an opening with exactly these rows of the history
 pub record IsCrash (h : History) (durable : Durable) (found : Opening) : Type 0 where
   pub schemas : found.schemas ≡ durable.schemas
-  pub life : found.life ≡ durable.life
+  pub ttl : found.ttl ≡ durable.ttl
   pub low : found.low ≡ durable.low
-  pub next : found.next ≡ durable.upto
-  pub kept : found.kept ≡ durable.upto
+  pub next : found.next ≡ durable.kept
+  pub kept : found.kept ≡ durable.kept
   pub rows_left : found.rows ≡ durable_rows h durable

@@ -1,7 +1,7 @@
--- What goes to disk, and what is there: the tablets that a flush takes along, and the rows below the settled number.
+-- What goes to disk, and what is there: the tablets that a flush takes along, and the rows below the kept number.
 use Rattle.std.specs.Prelude.{ℕ, ◌≡◌, ◌<◌, ◌≤◌, ◌≢◌, ◌↔◌, true, ◌&&◌, List, [], map, filter, nat_le, nat_lt, Contains, Option, Some, None}
 use Rattle.std.specs.List.Sorted.{IsStrictlyIncreasing}
-use Rattle.lt_deps.specs.Closure.{has, IsClosure}
+use Rattle.lt_rec.specs.Closure.{has, IsClosure}
 use Rattle.lt_model.specs.History.{Numbered, History}
 use Rattle.lt_model.specs.Readings.{Note, rows, next, low, kept, since, time_in, in_memory, IsInMemory}
 
@@ -16,10 +16,10 @@ AreFlushed h None tablets = IsStrictlyIncreasing tablets × ((tablet : ℕ) → 
 
 -- Below this number all is durable once these tablets are: it is no lower than before and above each of their rows, and
 -- where all tablets go, no lower than the next number.
-pub record IsDurable (h : History) (which : Option ℕ) (tablets : List ℕ) (upto : ℕ) : Type 0 where
-  pub no_lower : kept h ≤ upto
-  pub above_rows : (note : Note) → Contains (in_memory h) note → has tablets note.tablet ≡ true → note.seq < upto
-  pub above_all : which ≡ None → next h ≤ upto
+pub record IsDurable (h : History) (which : Option ℕ) (tablets : List ℕ) (kept_after : ℕ) : Type 0 where
+  pub no_lower : kept h ≤ kept_after
+  pub above_rows : (note : Note) → Contains (in_memory h) note → has tablets note.tablet ≡ true → note.seq < kept_after
+  pub above_all : which ≡ None → next h ≤ kept_after
 
 -- the rows on disk: durable, and unexpired so far
 abbrev pub on_disk : History → List Numbered

@@ -1,7 +1,7 @@
 -- A session of one client while it grows by a line at a time: each line is decided at the end of the history.
 use Rattle.std.specs.Prelude.{ℕ, ◌≡◌, ⊤, List, [], ◌∷◌, length}
-use Rattle.lt_lang.specs.declared.command.Line.{Line}
-use Rattle.lt_reply.specs.declared.reply.Reply.{Reply}
+use Rattle.lt_command.specs.declared.command.Line.{Line}
+use Rattle.lt_command.specs.declared.reply.Reply.{Reply}
 use Rattle.lt_model.specs.History.{History}
 use Rattle.lt_model.specs.Legal.{IsLegal}
 use Rattle.lt_model.specs.Session.{Mark, seen_after, LinesAnswered}

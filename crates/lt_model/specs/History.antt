@@ -14,7 +14,7 @@ pub record Numbered : Type 0 where
 -- rows are gone, the next number, the number below which all is durable, and its rows
 pub record Opening : Type 0 where
   pub schemas : SchemaVersions
-  pub life : Option ℕ
+  pub ttl : Option ℕ
   pub low : ℕ
   pub next : ℕ
   pub kept : ℕ

@@ -2,12 +2,12 @@
 use Rattle.std.specs.Prelude.{ℕ, ◌+◌, ◌≡◌, ◌≤◌, ◌⊎◌, ◌↔◌, ⊤, max, Bool, IsTrue, List, [], ◌∷◌, ◌++◌, length, Option}
 use Rattle.lt_schema.specs.declared.value.Value.{Value}
 use Rattle.lt_schema.specs.Versions.{SchemaVersions, newest_version}
-use Rattle.lt_lang.specs.declared.query.Query.{Query}
-use Rattle.lt_lang.specs.declared.command.Command.{Command}
-use Rattle.lt_lang.specs.declared.command.Line.{Line}
-use Rattle.lt_lang.specs.declared.command.Line.TheVariants.{Bad, Command as CommandLine}
-use Rattle.lt_reply.specs.declared.reply.Reply.{Reply}
-use Rattle.lt_reply.specs.declared.reply.Reply.TheVariants.{BadLine}
+use Rattle.lt_command.specs.declared.query.Query.{Query}
+use Rattle.lt_command.specs.declared.command.Command.{Command}
+use Rattle.lt_command.specs.declared.command.Line.{Line}
+use Rattle.lt_command.specs.declared.command.Line.TheVariants.{Bad, Command as CommandLine}
+use Rattle.lt_command.specs.declared.reply.Reply.{Reply}
+use Rattle.lt_command.specs.declared.reply.Reply.TheVariants.{BadLine}
 use Rattle.lt_model.specs.History.{Numbered, Opening, Entry, row_entry, bound_entry, schema_entry, kept_entry, History, front, extended}
 use Rattle.lt_model.specs.Readings.{Note, rows, next, low, kept, schemas, notes_in, IsInMemory, next_tablet}
 use Rattle.lt_model.specs.Legal.{IsOpening, IsLegal, MayFollow, KeysDiffer}
@@ -17,7 +17,7 @@ use Rattle.lt_model.specs.Step.{IsStep}
 use Rattle.lt_model.specs.Session.{IsMoment, IsSession, Client, Block, Stand}
 use Rattle.lt_model.specs.Growing.{SoFar}
 use Rattle.lt_model.specs.Crash.{Durable, IsCrash}
-use Rattle.lt_model.specs.Shown.{Inserts, IsAdded, ToldToOneLine, IsGivenSince}
+use Rattle.lt_model.specs.Shown.{Inserts, IsAdded, IsShownOnce, IsGivenSince}
 
 -- what was a front stays it
 abbrev pub FrontsStay : Type 0
@@ -145,16 +145,16 @@ IsASessionOfOne = (shows : ℕ → Bool) (began : ℕ) (name : List ℕ) (lines 
 abbrev pub IsASessionOfNobody : Type 0
 IsASessionOfNobody = (shows : ℕ → Bool) (h : History) → IsLegal h → IsSession (clock_of shows) (length h.entries) [] [] h
 
--- each number that a client was told was given since the session began, to the row that its line asks for
+-- each number in a reply was given since the session began, to the row that its line asks for
 abbrev pub RepliesShowTheirRows : Type 0
 RepliesShowTheirRows = (shows : ℕ → Bool) (began : ℕ) (clients : List Client) (blocks : List Block) (h : History) (client line : ℕ) (row : List Value) (seq : ℕ)
     → IsSession (clock_of shows) began clients blocks h → Inserts clients blocks client line row seq → IsAdded h began row seq × IsGivenSince h began seq
 
--- each number that was given since was told, once
-abbrev pub EachNumberIsTold : Type 0
-EachNumberIsTold = (shows : ℕ → Bool) (began : ℕ) (clients : List Client) (blocks : List Block) (h : History) (seq : ℕ)
-    → IsSession (clock_of shows) began clients blocks h → IsGivenSince h began seq → ToldToOneLine clients blocks seq
+-- each number that was given since is in one reply
+abbrev pub EachNumberIsShown : Type 0
+EachNumberIsShown = (shows : ℕ → Bool) (began : ℕ) (clients : List Client) (blocks : List Block) (h : History) (seq : ℕ)
+    → IsSession (clock_of shows) began clients blocks h → IsGivenSince h began seq → IsShownOnce clients blocks seq
 
 -- what a stop leaves of a front is what it leaves of the history, where no row since is numbered below what is durable
 abbrev pub CrashesByFront : Type 0
-CrashesByFront = (k : ℕ) (h : History) (durable : Durable) (found : Opening) → IsLegal h → durable.upto ≤ next (front k h) → IsCrash (front k h) durable found ↔ IsCrash h durable found
+CrashesByFront = (k : ℕ) (h : History) (durable : Durable) (found : Opening) → IsLegal h → durable.kept ≤ next (front k h) → IsCrash (front k h) durable found ↔ IsCrash h durable found

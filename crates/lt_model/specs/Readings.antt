@@ -23,7 +23,7 @@ low_in low (bound_entry bound ∷ entries) = low_in (max low bound) entries
 low_in low (schema_entry change ∷ entries) = low_in low entries
 low_in low (kept_entry number ∷ entries) = low_in low entries
 
--- the greatest of a settled number and those of the entries
+-- the greatest of a kept number and those of the entries
 abbrev pub kept_in : ℕ → List Entry → ℕ
 kept_in kept [] = kept
 kept_in kept (row_entry numbered tablet ∷ entries) = kept_in kept entries
@@ -50,7 +50,7 @@ next h = h.opening.next + length (rows_in h.entries)
 abbrev pub low : History → ℕ
 low h = low_in h.opening.low h.entries
 
--- the settled number: each row below it is durable
+-- the kept number: each row below it is durable
 abbrev pub kept : History → ℕ
 kept h = kept_in h.opening.kept h.entries
 
@@ -59,8 +59,8 @@ abbrev pub schemas : History → SchemaVersions
 schemas h = record { first = h.opening.schemas.first; changes = h.opening.schemas.changes ++ changes_in h.entries }
 
 -- the time to live
-abbrev pub life : History → Option ℕ
-life h = h.opening.life
+abbrev pub ttl : History → Option ℕ
+ttl h = h.opening.ttl
 
 -- a row's key and its timestamp; no change of the schema touches them
 abbrev pub key_in : History → Numbered → List Value
@@ -72,11 +72,11 @@ time_in h numbered = time_of h.opening.schemas.first numbered.row
 -- the greater of a low and the time to live before a moment
 abbrev pub bound_at : Option ℕ → ℕ → ℕ → ℕ
 bound_at None low now = low
-bound_at (Some life) low now = max low (now - life)
+bound_at (Some ttl) low now = max low (now - ttl)
 
 -- rows from this timestamp on are unexpired at that moment
 abbrev pub since : History → ℕ → ℕ
-since h now = bound_at (life h) (low h) now
+since h now = bound_at (ttl h) (low h) now
 
 -- a row of a tablet in memory
 pub record Note : Type 0 where
@@ -90,7 +90,7 @@ notes_in (bound_entry bound ∷ entries) = notes_in entries
 notes_in (schema_entry change ∷ entries) = notes_in entries
 notes_in (kept_entry number ∷ entries) = notes_in entries
 
--- the tablets in memory with their rows: those that rows from the settled number on were added to
+-- the tablets in memory with their rows: those that rows from the kept number on were added to
 abbrev pub in_memory : History → List Note
 in_memory h = filter (λ note. nat_le (kept h) note.seq) (notes_in h.entries)
 

@@ -2,11 +2,11 @@
 use Rattle.std.specs.Prelude.{ℕ, ◌+◌, ◌≡◌, ◌≤◌, ◌<◌, ◌⊎◌, ⊤, Bool, false, List, [], ◌∷◌, ◌++◌, length, take, drop, map, filter, nat_eq, Option, Some, None, IsSomeAnd, slice_get, option_and_then, if◌then◌else◌}
 use Rattle.std.specs.List.{list_any}
 use Rattle.std.specs.Cmp.Lexicographic.{pointwise}
-use Rattle.lt_lang.specs.declared.command.Command.{Command}
-use Rattle.lt_lang.specs.declared.command.Line.{Line}
-use Rattle.lt_lang.specs.declared.command.Line.TheVariants.{Skip, Bad, Command as CommandLine}
-use Rattle.lt_reply.specs.declared.reply.Reply.{Reply}
-use Rattle.lt_reply.specs.declared.reply.Reply.TheVariants.{BadLine}
+use Rattle.lt_command.specs.declared.command.Command.{Command}
+use Rattle.lt_command.specs.declared.command.Line.{Line}
+use Rattle.lt_command.specs.declared.command.Line.TheVariants.{Skip, Bad, Command as CommandLine}
+use Rattle.lt_command.specs.declared.reply.Reply.{Reply}
+use Rattle.lt_command.specs.declared.reply.Reply.TheVariants.{BadLine}
 use Rattle.lt_model.specs.History.{Entry, row_entry, bound_entry, schema_entry, kept_entry, History, front}
 use Rattle.lt_model.specs.Readings.{since}
 use Rattle.lt_model.specs.Legal.{IsLegal}
@@ -53,7 +53,7 @@ pub record CommandAnswered (clock : ℕ → Type 0) (h : History) (seen : ℕ) (
 
 -- a line outside the grammar is told so, and adds nothing
 pub record BadAnswered (seen at : ℕ) (reply : Reply) (mark : Mark) : Type 0 where
-  pub told : reply ≡ BadLine at
+  pub reply_is : reply ≡ BadLine at
   pub stays : (mark.goes ≡ seen) × (mark.added ≡ [])
 
 abbrev pub LineAnswered : (ℕ → Type 0) → History → ℕ → Line → Reply → Mark → Type 0

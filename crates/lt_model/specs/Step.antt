@@ -6,11 +6,11 @@ use Rattle.lt_rec.specs.declared.listed.Listed.{Listed}
 use Rattle.lt_schema.specs.declared.value.Value.{Value}
 use Rattle.lt_schema.specs.declared.change.Change.{Change}
 use Rattle.lt_schema.specs.Versions.{newest, newest_version, alter_refusal}
-use Rattle.lt_lang.specs.declared.query.Query.{Query}
-use Rattle.lt_lang.specs.declared.command.Command.{Command}
-use Rattle.lt_lang.specs.declared.command.Command.TheVariants.{Insert, Scan, Latest as LatestCommand, Flush, Upkeep, Alter, Tablets}
-use Rattle.lt_reply.specs.declared.reply.Reply.{Reply}
-use Rattle.lt_reply.specs.declared.reply.Reply.TheVariants.{Inserted, BadRow, TooOld, Present, Spent, Rows, Latest, BadLimit, BadBound, Flushed, NoTablet, Upkept, Version, Refused, Tablets as TabletsReply, Damaged, Fault, NoMemory}
+use Rattle.lt_command.specs.declared.query.Query.{Query}
+use Rattle.lt_command.specs.declared.command.Command.{Command}
+use Rattle.lt_command.specs.declared.command.Command.TheVariants.{Insert, Scan, Latest as LatestCommand, Flush, Upkeep, Alter, Tablets}
+use Rattle.lt_command.specs.declared.reply.Reply.{Reply}
+use Rattle.lt_command.specs.declared.reply.Reply.TheVariants.{Inserted, BadRow, TooOld, Present, Spent, Rows, Latest, BadLimit, BadBound, Flushed, NoTablet, Upkept, Version, Refused, Tablets as TabletsReply, Damaged, Fault, NoMemory}
 use Rattle.lt_model.specs.History.{Entry, row_entry, bound_entry, schema_entry, kept_entry, History, extended}
 use Rattle.lt_model.specs.Readings.{next, low, kept, schemas, since, IsInMemory}
 use Rattle.lt_model.specs.Boxes.{is_limit, query_fault, prefix_fault}
@@ -73,12 +73,12 @@ AlterStep decided change Fault added = added ≡ []
 AlterStep decided change NoMemory added = added ≡ []
 AlterStep decided change _ added = ⊥
 
--- an entry that tells the settled number, where the front after which it stands does not tell it already
-abbrev pub Settles : History → ℕ → List Entry → Type 0
-Settles settled upto added = ((upto ≡ kept settled) × (added ≡ [])) ⊎ ((upto ≢ kept settled) × (added ≡ kept_entry upto ∷ []))
+-- an entry that tells the kept number, where the front after which it stands does not tell it already
+abbrev pub TellsKept : History → ℕ → List Entry → Type 0
+TellsKept settled kept_after added = ((kept_after ≡ kept settled) × (added ≡ [])) ⊎ ((kept_after ≢ kept settled) × (added ≡ kept_entry kept_after ∷ []))
 
 abbrev pub FlushStep : History → History → Option ℕ → Reply → List Entry → Type 0
-FlushStep decided settled which (Flushed upto tablets) added = AreFlushed decided which tablets × IsDurable decided which tablets upto × Settles settled upto added
+FlushStep decided settled which (Flushed kept_after tablets) added = AreFlushed decided which tablets × IsDurable decided which tablets kept_after × TellsKept settled kept_after added
 FlushStep decided settled (Some tablet) (NoTablet named) added = (named ≡ tablet) × (¬ IsInMemory decided tablet) × (added ≡ [])
 FlushStep decided settled which Spent added = added ≡ []
 FlushStep decided settled which Fault added = added ≡ []

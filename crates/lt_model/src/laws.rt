@@ -1,5 +1,5 @@
 //! Laws of the definitions. None of these functions does anything: their contracts are what they are for.
-ghost use Rattle.lt_model.specs.Laws.{FrontsStay, TheLastFront, EntriesStay, AddedAtTheEnd, ReadingsAfter, OpeningsAreLegal, FrontsAreLegal, LawfulEntriesKeepItLegal, AcceptedRowsKeepItLegal, AnswersByFront, LatestByFront, VerdictsByFront, StepsByFront, SomeVerdict, OneVerdict, OneAnswer, OneLatest, BeginsWithNothing, GrowsByACommand, GrowsByABadLine, IsASessionOfOne, IsASessionOfNobody, RepliesShowTheirRows, EachNumberIsTold, CrashesByFront};
+ghost use Rattle.lt_model.specs.Laws.{FrontsStay, TheLastFront, EntriesStay, AddedAtTheEnd, ReadingsAfter, OpeningsAreLegal, FrontsAreLegal, LawfulEntriesKeepItLegal, AcceptedRowsKeepItLegal, AnswersByFront, LatestByFront, VerdictsByFront, StepsByFront, SomeVerdict, OneVerdict, OneAnswer, OneLatest, BeginsWithNothing, GrowsByACommand, GrowsByABadLine, IsASessionOfOne, IsASessionOfNobody, RepliesShowTheirRows, EachNumberIsShown, CrashesByFront};
 
 /// A history keeps its fronts, and its entries their places, while it grows.
 pub fn fronts_stay()
@@ -62,7 +62,7 @@ pub fn a_session_of_one()
 /// The replies of a session show the rows that it added and their numbers, each once.
 pub fn replies_show_the_rows()
     ensures shown { RepliesShowTheirRows }
-    ensures told { EachNumberIsTold }
+    ensures once { EachNumberIsShown }
 {}
 
 /// A stop leaves of a history what it leaves of each front from whose next number on nothing is durable.

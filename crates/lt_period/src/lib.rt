@@ -4,6 +4,3 @@
 mod of_moment;
 
 pub use of_moment::period_of;
-
-#[cfg(test)]
-mod tests;

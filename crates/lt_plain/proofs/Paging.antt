@@ -16,7 +16,7 @@ use Rattle.lt_schema.specs.Shapes.{SchemaShape}
 use Rattle.lt_schema.specs.Versions.{SchemaVersions, lifted_over}
 use Rattle.lt_schema.specs.Check.{key_of}
 use Rattle.lt_schema.specs.Orders.{key_cmp_total}
-use Rattle.lt_lang.specs.declared.query.Query.{Query}
+use Rattle.lt_command.specs.declared.query.Query.{Query}
 use Rattle.lt_model.specs.History.{Numbered, History}
 use Rattle.lt_model.specs.Readings.{rows, schemas}
 use Rattle.lt_model.specs.Legal.{IsLegal}
@@ -69,7 +69,7 @@ IsAnswer-page h query since shown more legal page =
       in_order = lifted_sorted versions query.down page.sorted whole page.in_order;
       first_ones = page.first_ones ∙ sym (take-map (under_newest versions) query.limit page.sorted);
       others = (
-        λ told. subst (λ (n : ℕ). query.limit < n) (sym many) ((Decides-ltb query.limit (length page.sorted)).0 (sym page.others ∙ told)),
+        λ more. subst (λ (n : ℕ). query.limit < n) (sym many) ((Decides-ltb query.limit (length page.sorted)).0 (sym page.others ∙ more)),
         λ less. page.others ∙ (Decides-ltb query.limit (length page.sorted)).1 (subst (λ (n : ℕ). query.limit < n) many less),
       );
     }

@@ -6,16 +6,14 @@ use Rattle.lt_schema.specs.declared.value.Value.{Value}
 use Rattle.lt_schema.specs.declared.change.Change.{Change}
 use Rattle.lt_schema.specs.declared.change.AlterError.{AlterError}
 use Rattle.lt_schema.specs.declared.row.RowFault.{RowFault}
-use Rattle.lt_schema.specs.Shapes.{SchemaShape}
-use Rattle.lt_schema.specs.Lawful.{is_schema}
 use Rattle.lt_schema.specs.Versions.{newest, newest_version, alter_refusal}
 use Rattle.lt_schema.specs.Check.{Passes, row_fault, key_of, time_of}
-use Rattle.lt_lang.specs.declared.query.Query.{Query}
-use Rattle.lt_reply.specs.declared.bound_fault.BoundFault.{BoundFault}
-use Rattle.lt_lang.specs.declared.command.Command.{Command}
-use Rattle.lt_lang.specs.declared.command.Command.TheVariants.{Insert, Scan, Alter}
-use Rattle.lt_reply.specs.declared.reply.Reply.{Reply}
-use Rattle.lt_reply.specs.declared.reply.Reply.TheVariants.{Inserted, BadRow, TooOld, Present, Spent, Rows, BadLimit, BadBound, Version, Refused, NoMemory}
+use Rattle.lt_command.specs.declared.query.Query.{Query}
+use Rattle.lt_command.specs.declared.bound_fault.BoundFault.{BoundFault}
+use Rattle.lt_command.specs.declared.command.Command.{Command}
+use Rattle.lt_command.specs.declared.command.Command.TheVariants.{Insert, Scan, Alter}
+use Rattle.lt_command.specs.declared.reply.Reply.{Reply}
+use Rattle.lt_command.specs.declared.reply.Reply.TheVariants.{Inserted, BadRow, TooOld, Present, Spent, Rows, BadLimit, BadBound, Version, Refused, NoMemory}
 use Rattle.lt_model.specs.History.{Numbered, Opening, Entry, row_entry, schema_entry, History, extended}
 use Rattle.lt_model.specs.Readings.{rows, next, schemas, since, bound_at, next_tablet}
 use Rattle.lt_model.specs.Boxes.{is_limit, query_fault}
@@ -23,13 +21,13 @@ use Rattle.lt_model.specs.Legal.{IsLegal}
 use Rattle.lt_model.specs.Verdict.{IsTimely, IsVerdict, HasNewKey, accepted}
 use Rattle.lt_model.specs.Step.{IsStep}
 use Rattle.lt_model.proofs.Fronts.{rows-extended_by_row, next-extended_by_row, low-extended_by_row, kept-extended_by_row, schemas-extended_by_row, rows-extended_by_none, next-extended_by_none, low-extended, kept-extended, schemas-extended}
-use Rattle.lt_model.proofs.Lawful.{IsLegal-accepted, IsLegal-lawful, IsLegal-opening}
-use Rattle.lt_plain.specs.Table.{state_of, StandsFor, IsAnswered, Answers, IsPage, HoldsKey, empty_of, with_row, with_change, MayAdd}
+use Rattle.lt_model.proofs.Lawful.{IsLegal-accepted, IsLegal-lawful}
+use Rattle.lt_plain.specs.Table.{state_of, StandsFor, IsAnswered, Answers, IsPage, HoldsKey, with_row, with_change, MayAdd}
 use Rattle.lt_plain.proofs.Paging.{IsAnswer-page}
 
-same_state : (a b : Opening) → a.schemas ≡ b.schemas → a.life ≡ b.life → a.low ≡ b.low → a.next ≡ b.next → a.kept ≡ b.kept → a.rows ≡ b.rows → a ≡ b
-same_state a b schemas_are life_is low_is next_is kept_is rows_are =
-    λ i. record { schemas = schemas_are i; life = life_is i; low = low_is i; next = next_is i; kept = kept_is i; rows = rows_are i }
+same_state : (a b : Opening) → a.schemas ≡ b.schemas → a.ttl ≡ b.ttl → a.low ≡ b.low → a.next ≡ b.next → a.kept ≡ b.kept → a.rows ≡ b.rows → a ≡ b
+same_state a b schemas_are ttl_is low_is next_is kept_is rows_are =
+    λ i. record { schemas = schemas_are i; ttl = ttl_is i; low = low_is i; next = next_is i; kept = kept_is i; rows = rows_are i }
 
 -- what an opening finds is what its history says at first
 pub StandsFor-opening : (o : Opening) → StandsFor o (record { opening = o; entries = [] })
@@ -53,20 +51,20 @@ pub answers_bad_row : (held : Opening) (row : List Value) (now : ℕ) (fault : R
 answers_bad_row held row now fault is h legal stands =
     nothing_added h held now (Insert row) (BadRow fault) legal stands (refl, (subst (λ (o : Opening). row_fault (newest o.schemas) row ≡ Some fault) (sym stands) is, refl))
 
-pub answers_too_old : (held : Opening) (row : List Value) (now bound : ℕ) → Passes (newest held.schemas) row → bound ≡ bound_at held.life held.low now → time_of held.schemas.first row < bound
+pub answers_too_old : (held : Opening) (row : List Value) (now bound : ℕ) → Passes (newest held.schemas) row → bound ≡ bound_at held.ttl held.low now → time_of held.schemas.first row < bound
     → Answers held held now (Insert row) (TooOld bound)
 answers_too_old held row now bound passes is old h legal stands =
     nothing_added h held now (Insert row) (TooOld bound) legal stands
-    (refl, ((subst (λ (o : Opening). Passes (newest o.schemas) row) (sym stands) passes, subst (λ (o : Opening). bound ≡ bound_at o.life o.low now) (sym stands) is, subst (λ (o : Opening). time_of o.schemas.first row < bound) (sym stands) old), refl))
+    (refl, ((subst (λ (o : Opening). Passes (newest o.schemas) row) (sym stands) passes, subst (λ (o : Opening). bound ≡ bound_at o.ttl o.low now) (sym stands) is, subst (λ (o : Opening). time_of o.schemas.first row < bound) (sym stands) old), refl))
 
 -- a row that passes and is unexpired
-IsTimely-held : (held : Opening) (row : List Value) (now : ℕ) (h : History) → StandsFor held h → Passes (newest held.schemas) row → bound_at held.life held.low now ≤ time_of held.schemas.first row → IsTimely h row now
+IsTimely-held : (held : Opening) (row : List Value) (now : ℕ) (h : History) → StandsFor held h → Passes (newest held.schemas) row → bound_at held.ttl held.low now ≤ time_of held.schemas.first row → IsTimely h row now
 IsTimely-held held row now h stands passes unexpired = record {
   passes = subst (λ (o : Opening). Passes (newest o.schemas) row) (sym stands) passes;
-  unexpired = subst (λ (o : Opening). bound_at o.life o.low now ≤ time_of o.schemas.first row) (sym stands) unexpired;
+  unexpired = subst (λ (o : Opening). bound_at o.ttl o.low now ≤ time_of o.schemas.first row) (sym stands) unexpired;
 }
 
-pub answers_present : (held : Opening) (row : List Value) (now seq : ℕ) → Passes (newest held.schemas) row → bound_at held.life held.low now ≤ time_of held.schemas.first row
+pub answers_present : (held : Opening) (row : List Value) (now seq : ℕ) → Passes (newest held.schemas) row → bound_at held.ttl held.low now ≤ time_of held.schemas.first row
     → HoldsKey held.schemas.first held.rows row seq → Answers held held now (Insert row) (Present seq)
 answers_present held row now seq passes unexpired holds h legal stands =
     nothing_added h held now (Insert row) (Present seq) legal stands (
@@ -93,7 +91,7 @@ HasNewKey-held : (held : Opening) (row : List Value) (h : History) → StandsFor
 HasNewKey-held held row h stands differ =
     subst (λ (o : Opening). (other : Numbered) → Contains o.rows other → key_of o.schemas.first other.row ≢ key_of o.schemas.first row) (sym stands) (new_key_of held row differ)
 
-pub answers_spent : (held : Opening) (row : List Value) (now : ℕ) → Passes (newest held.schemas) row → bound_at held.life held.low now ≤ time_of held.schemas.first row
+pub answers_spent : (held : Opening) (row : List Value) (now : ℕ) → Passes (newest held.schemas) row → bound_at held.ttl held.low now ≤ time_of held.schemas.first row
     → All (λ (other : Numbered). key_of held.schemas.first other.row ≢ key_of held.schemas.first row) held.rows → 2 ^ 62 ≤ held.next → Answers held held now (Insert row) Spent
 answers_spent held row now passes unexpired differ full h legal stands =
     nothing_added h held now (Insert row) Spent legal stands
@@ -135,10 +133,10 @@ rows_now h query now shown more legal right bounds page =
     (refl, (record { limit = right; bounds = bounds; place_is = refl; bound_is = refl }, IsAnswer-page h query (since h now) shown more legal page, refl))
 
 pub answers_rows : (held : Opening) (query : Query) (now : ℕ) (shown : List (List Value)) (more : Bool) → IsTrue (is_limit query.limit) → query_fault (newest held.schemas) query ≡ None
-    → IsPage held.schemas query (bound_at held.life held.low now) held.rows shown more → Answers held held now (Scan query) (Rows shown more held.next (bound_at held.life held.low now))
+    → IsPage held.schemas query (bound_at held.ttl held.low now) held.rows shown more → Answers held held now (Scan query) (Rows shown more held.next (bound_at held.ttl held.low now))
 answers_rows held query now shown more right bounds page h legal stands =
-    subst (λ (o : Opening). query_fault (newest o.schemas) query ≡ None → IsPage o.schemas query (bound_at o.life o.low now) o.rows shown more
-    → IsAnswered h o now (Scan query) (Rows shown more o.next (bound_at o.life o.low now))) stands
+    subst (λ (o : Opening). query_fault (newest o.schemas) query ≡ None → IsPage o.schemas query (bound_at o.ttl o.low now) o.rows shown more
+    → IsAnswered h o now (Scan query) (Rows shown more o.next (bound_at o.ttl o.low now))) stands
     (λ fits is. rows_now h query now shown more legal right fits is) bounds page
 
 pub answers_refused : (held : Opening) (change : Change) (why : AlterError) (now : ℕ) → alter_refusal (newest held.schemas) change ≡ Some why → Answers held held now (Alter change) (Refused why)
@@ -173,7 +171,3 @@ answers_no_memory_scan held query now h legal stands = nothing_added h held now 
 
 pub answers_no_memory_alter : (held : Opening) (change : Change) (now : ℕ) → Answers held held now (Alter change) NoMemory
 answers_no_memory_alter held change now h legal stands = nothing_added h held now (Alter change) NoMemory legal stands (refl, refl)
-
--- the empty table's history is legal
-pub IsLegal-empty : (schema : SchemaShape) → IsTrue (is_schema schema) → IsLegal (record { opening = empty_of (record { first = schema; changes = [] }); entries = [] })
-IsLegal-empty schema lawful = IsLegal-opening (empty_of (record { first = schema; changes = [] })) (record { schema = lawful; changes = tt; rows_may = tt; rising = tt }) tt

@@ -1,17 +1,17 @@
 -- For which histories a plain table stands, and what it answers then.
-use Rattle.std.specs.Prelude.{⊤, ℕ, ◌+◌, ◌≡◌, ◌≢◌, ◌≤◌, ◌<◌, ◌^◌, Bool, ◌&&◌, List, [], ◌∷◌, ◌++◌, length, take, map, filter, nat_le, nat_lt, All, Contains, IsSorted, IsPermutation, None}
+use Rattle.std.specs.Prelude.{⊤, ℕ, ◌+◌, ◌≡◌, ◌≢◌, ◌≤◌, ◌<◌, ◌^◌, Bool, ◌&&◌, List, [], ◌∷◌, ◌++◌, length, take, map, filter, nat_le, nat_lt, All, Contains, IsSorted, IsPermutation}
 use Rattle.std.specs.declared.cmp.Ordering.{Ordering}
 use Rattle.lt_schema.specs.declared.value.Value.{Value}
 use Rattle.lt_schema.specs.Shapes.{SchemaShape}
 use Rattle.lt_schema.specs.declared.change.Change.{Change}
 use Rattle.lt_schema.specs.Versions.{SchemaVersions, newest, newest_version, lift_to_newest}
 use Rattle.lt_schema.specs.Check.{Passes, key_of, time_of}
-use Rattle.lt_lang.specs.declared.query.Query.{Query}
-use Rattle.lt_lang.specs.declared.command.Command.{Command}
-use Rattle.lt_reply.specs.declared.reply.Reply.{Reply}
-use Rattle.lt_reply.specs.declared.reply.Reply.TheVariants.{Damaged}
+use Rattle.lt_command.specs.declared.query.Query.{Query}
+use Rattle.lt_command.specs.declared.command.Command.{Command}
+use Rattle.lt_command.specs.declared.reply.Reply.{Reply}
+use Rattle.lt_command.specs.declared.reply.Reply.TheVariants.{Damaged}
 use Rattle.lt_model.specs.History.{Numbered, Opening, Entry, History, extended}
-use Rattle.lt_model.specs.Readings.{rows, next, low, kept, schemas, life, bound_at}
+use Rattle.lt_model.specs.Readings.{rows, next, low, kept, schemas, ttl, bound_at}
 use Rattle.lt_model.specs.Boxes.{meets_low, meets_high}
 use Rattle.lt_model.specs.Answer.{row_cmp}
 use Rattle.lt_model.specs.Legal.{IsLegal}
@@ -19,7 +19,7 @@ use Rattle.lt_model.specs.Step.{IsStep}
 
 -- what a history says by now, as an opening that finds all of it
 abbrev pub state_of : History → Opening
-state_of h = record { schemas = schemas h; life = life h; low = low h; next = next h; kept = kept h; rows = rows h }
+state_of h = record { schemas = schemas h; ttl = ttl h; low = low h; next = next h; kept = kept h; rows = rows h }
 
 -- a table that holds this stands for the history
 abbrev pub StandsFor : Opening → History → Type 0
@@ -73,10 +73,6 @@ pub record HoldsKey (schema : SchemaShape) (numbered : List Numbered) (row : Lis
   pub same_key : key_of schema found.row ≡ key_of schema row
   pub number : found.seq ≡ seq
 
--- the table without rows and without a time to live
-abbrev pub empty_of : SchemaVersions → Opening
-empty_of versions = record { schemas = versions; life = None; low = 0; next = 0; kept = 0; rows = [] }
-
 -- all but the rows and their next number
 abbrev pub rest_of : Opening → Opening
 rest_of held = record held { next = 0; rows = [] }
@@ -92,6 +88,6 @@ with_change held change = record held { schemas = record { first = held.schemas.
 -- no verdict refuses the row: it passes, is unexpired, its key is new, and a number is left
 pub record MayAdd (held : Opening) (row : List Value) (now : ℕ) : Type 0 where
   pub passes : Passes (newest held.schemas) row
-  pub unexpired : bound_at held.life held.low now ≤ time_of held.schemas.first row
+  pub unexpired : bound_at held.ttl held.low now ≤ time_of held.schemas.first row
   pub new_key : All (λ (other : Numbered). key_of held.schemas.first other.row ≢ key_of held.schemas.first row) held.rows
   pub room : held.next < 2 ^ 62

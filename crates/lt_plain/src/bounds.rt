@@ -2,8 +2,7 @@
 ghost use Rattle.std.specs.Prelude.{◌≡◌};
 ghost use Rattle.lt_model.specs.Boxes.{values_fault, edge_fault, query_fault};
 
-use lt_lang::{Edge, Query};
-use lt_reply::BoundFault;
+use lt_command::{BoundFault, Edge, Query};
 use lt_schema::{Schema, Value};
 
 fn values_fault(schema: &Schema, values: &[Value]) -> Option<BoundFault>

@@ -4,9 +4,9 @@ ghost use Rattle.lt_schema.specs.Values.{leading_cmp};
 ghost use Rattle.lt_model.specs.Boxes.{meets_low, meets_high, is_limit};
 ghost use Rattle.lt_plain.specs.Table.{box_has, is_shown};
 
+use crate::numbered_row::NumberedRow;
 use crate::rows::{key, leading, time};
-use crate::stored::Stored;
-use lt_lang::{Edge, Query};
+use lt_command::{Edge, Query};
 use lt_schema::{Schema, Value};
 use std::cmp::Ordering;
 
@@ -66,9 +66,9 @@ fn is_inside(schema: &Schema, query: &Query, row: &[Value]) -> bool
 }
 
 /// Inside the box, and unexpired.
-pub fn shows(schema: &Schema, query: &Query, since: u64, stored: &Stored) -> bool
-    ensures { result ≡ is_shown schema.now query.now since stored.now }
+pub fn shows(schema: &Schema, query: &Query, since: u64, numbered: &NumberedRow) -> bool
+    ensures { result ≡ is_shown schema.now query.now since numbered.now }
 {
-    let row = stored.values();
+    let row = numbered.values();
     is_inside(schema, query, row) && since <= time(schema, row)
 }

@@ -5,9 +5,9 @@
 mod bounds;
 mod boxes;
 mod list_table;
+mod numbered_row;
 mod pages;
 mod rows;
-mod stored;
 
 pub use list_table::ListTable;
-pub use stored::Stored;
+pub use numbered_row::NumberedRow;

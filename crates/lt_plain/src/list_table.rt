@@ -5,13 +5,12 @@ ghost use Rattle.lt_plain.specs.Table.{HoldsKey};
 
 use crate::bounds::query_fault;
 use crate::boxes::may_limit;
+use crate::numbered_row::NumberedRow;
 use crate::pages::page_of;
 use crate::rows::{has_key_of, time};
-use crate::stored::Stored;
-use lt_lang::Query;
+use lt_command::{Query, Reply};
 use lt_rec::NoMemory;
-use lt_reply::Reply;
-use lt_schema::{Change, Row, Schema, Schemas, Value};
+use lt_schema::{Row, Schema, Schemas, Value};
 use std::alloc::Global;
 use std::marker::Model;
 
@@ -22,11 +21,11 @@ const NUMBERS: u64 = 1 << 62;
 #[derive(Debug, Drop)]
 pub struct ListTable {
     schemas: Schemas,
-    life: Option<u64>,
+    ttl: Option<u64>,
     low: u64,
     next: u64,
     kept: u64,
-    rows: Vec<Stored>,
+    rows: Vec<NumberedRow>,
 }
 
 impl Model for ListTable {
@@ -34,57 +33,50 @@ impl Model for ListTable {
 
     ghost Value = { Opening };
 
-    ghost view = { λ t. record { schemas = t.schemas; life = t.life; low = t.low; next = t.next; kept = t.kept; rows = t.rows.items } };
+    ghost view = { λ t. record { schemas = t.schemas; ttl = t.ttl; low = t.low; next = t.next; kept = t.kept; rows = t.rows.items } };
 }
 
 /// The number of the row with the same key.
-fn number_of(schema: &Schema, rows: &[Stored], row: &[Value]) -> Option<u64>
+fn number_of(schema: &Schema, rows: &[NumberedRow], row: &[Value]) -> Option<u64>
     ensures found { IfSome result (HoldsKey schema.now rows.now row.now) }
     ensures absent { IfNone result (All (λ other. key_of schema.now other.row ≢ key_of schema.now row.now) rows.now) }
 {
-    for stored in rows {
-        if has_key_of(schema, stored.values(), row) {
-            return Some(stored.seq());
+    for numbered in rows {
+        if has_key_of(schema, numbered.values(), row) {
+            return Some(numbered.seq());
         }
     }
     None
 }
 
 impl ListTable {
-    ghost use Rattle.std.specs.Prelude.{◌≡◌, ◌≢◌, ◌<◌, ◌^◌, IfOk, OnErr, OnOk, ℕ, None};
-    ghost use Rattle.lt_lang.specs.declared.command.Command.TheVariants.{Insert, Scan, Alter};
+    ghost use Rattle.std.specs.Prelude.{◌≡◌, ◌≢◌, ◌<◌, ◌^◌, IfOk, OnErr, OnOk, ℕ};
+    ghost use Rattle.lt_command.specs.declared.command.Command.TheVariants.{Insert, Scan, Alter};
     ghost use Rattle.lt_model.specs.Readings.{bound_at};
     ghost use Rattle.lt_schema.specs.Versions.{newest, newest_version, alter_refusal};
     ghost use Rattle.lt_schema.specs.declared.change.Change.{Change as SchemaChange};
-    ghost use Rattle.lt_plain.specs.Table.{Answers, IsUndamaged, empty_of, with_row, with_change, rest_of};
+    ghost use Rattle.lt_plain.specs.Table.{Answers, IsUndamaged, with_row, with_change, rest_of};
 
     /// The table that an opening finds: its schemas, its time to live and its low bound in microseconds, the next row's
     /// number, the number below which all is durable, and its rows. Takes no memory.
     pub fn open(
         schemas: Schemas,
-        life: Option<u64>,
+        ttl: Option<u64>,
         low: u64,
         next: u64,
         kept: u64,
-        rows: Vec<Stored>,
+        rows: Vec<NumberedRow>,
     ) -> ListTable
-        ensures { result ≡ record { schemas = schemas; life = life; low = low; next = next; kept = kept; rows = rows.items } }
+        ensures { result ≡ record { schemas = schemas; ttl = ttl; low = low; next = next; kept = kept; rows = rows.items } }
     {
         ListTable {
             schemas,
-            life,
+            ttl,
             low,
             next,
             kept,
             rows,
         }
-    }
-
-    /// The table without rows and without a time to live. Takes no memory.
-    pub fn empty(alloc: Global, schemas: Schemas) -> ListTable
-        ensures { result ≡ empty_of schemas }
-    {
-        ListTable::open(schemas, None, 0, 0, 0, Vec::new(alloc))
     }
 
     /// The versions of its schema.
@@ -95,10 +87,10 @@ impl ListTable {
     }
 
     /// The time to live, in microseconds.
-    pub fn life(&self) -> Option<u64>
-        ensures { result ≡ self.now.life }
+    pub fn ttl(&self) -> Option<u64>
+        ensures { result ≡ self.now.ttl }
     {
-        self.life
+        self.ttl
     }
 
     /// The bound below which rows are gone.
@@ -124,11 +116,11 @@ impl ListTable {
 
     /// Rows from this timestamp on are unexpired at that moment.
     fn since(&self, now: u64) -> u64
-        ensures { result ≡ bound_at self.now.life self.now.low now }
+        ensures { result ≡ bound_at self.now.ttl self.now.low now }
     {
-        match self.life {
+        match self.ttl {
             None => self.low,
-            Some(life) => self.low.max(now.saturating_sub(life)),
+            Some(ttl) => self.low.max(now.saturating_sub(ttl)),
         }
     }
 
@@ -138,8 +130,8 @@ impl ListTable {
         ensures pushed { OnOk result (self.new ≡ with_row self.old row) }
         ensures unchanged { OnErr result (self.new ≡ self.old) }
     {
-        let stored = Stored::new(self.next, self.schemas.newest_version(), row);
-        self.rows.push(stored)?;
+        let numbered = NumberedRow::new(self.next, self.schemas.newest_version(), row);
+        self.rows.push(numbered)?;
         self.next += 1;
         Ok(())
     }
@@ -202,17 +194,5 @@ impl ListTable {
         self.schemas = schemas;
         let version = u64::from(self.schemas.newest_version());
         Reply::Version { version }
-    }
-
-    /// Changes the schema, or answers the first cause against it.
-    pub fn alter(&mut self, change: &Change) -> Result<Reply, NoMemory>
-        ensures answered { IfOk result (λ reply. (now : ℕ) → Answers self.old self.new now (Alter change.now) reply) }
-        ensures unchanged { OnErr result (self.new ≡ self.old) }
-    {
-        if let Err(why) = self.schemas.admits(change) {
-            return Ok(Reply::Refused { why });
-        }
-        let schemas = self.schemas.with(change)?;
-        Ok(self.replace_schemas(schemas))
     }
 }

@@ -3,11 +3,11 @@ ghost use Rattle.std.specs.Prelude.{◌≡◌, List, map, take, filter, IfOk, On
 ghost use Rattle.lt_plain.specs.Table.{is_shown, under_newest, numbered_cmp, IsPage};
 
 use crate::boxes::shows;
+use crate::numbered_row::NumberedRow;
 use crate::rows::order;
-use crate::stored::Stored;
-use lt_lang::Query;
+use lt_command::Query;
 use lt_rec::NoMemory;
-use lt_schema::{Rows, Schema, Schemas};
+use lt_schema::{Rows, RowsBuilder, Schema, Schemas};
 use std::alloc::Global;
 
 /// The rows that are shown, and whether there are others.
@@ -23,20 +23,20 @@ fn found<'a>(
     schema: &Schema,
     query: &Query,
     since: u64,
-    rows: &'a [Stored],
-) -> Result<Vec<&'a Stored>, NoMemory>
-    ensures { IfOk result (λ found. map (λ stored. stored.now) found.items ≡ filter (is_shown schema.now query.now since) rows.now) }
+    rows: &'a [NumberedRow],
+) -> Result<Vec<&'a NumberedRow>, NoMemory>
+    ensures { IfOk result (λ found. map (λ numbered. numbered.now) found.items ≡ filter (is_shown schema.now query.now since) rows.now) }
 {
     let mut found = Vec::new(alloc);
-    for stored in rows {
-        if shows(schema, query, since, stored) {
-            found.push(stored)?;
+    for numbered in rows {
+        if shows(schema, query, since, numbered) {
+            found.push(numbered)?;
         }
     }
     Ok(found)
 }
 
-fn sort(schema: &Schema, down: bool, found: &mut Vec<&Stored>) -> Result<(), NoMemory>
+fn sort(schema: &Schema, down: bool, found: &mut Vec<&NumberedRow>) -> Result<(), NoMemory>
     ensures same { IsPermutation found.old.items found.new.items }
     ensures sorted { OnOk result (IsSorted (λ a b. numbered_cmp schema.now down a.now b.now) found.new.items) }
 {
@@ -44,14 +44,16 @@ fn sort(schema: &Schema, down: bool, found: &mut Vec<&Stored>) -> Result<(), NoM
     Ok(())
 }
 
-fn lifted(alloc: Global, schemas: &Schemas, found: &[&Stored]) -> Result<Rows, NoMemory>
-    ensures { IfOk result (λ rows. rows ≡ map (λ stored. under_newest schemas.now stored.now) found.now) }
+fn lifted(alloc: Global, schemas: &Schemas, found: &[&NumberedRow]) -> Result<Rows, NoMemory>
+    ensures { IfOk result (λ rows. rows ≡ map (λ numbered. under_newest schemas.now numbered.now) found.now) }
 {
-    let mut rows = Vec::with_capacity(alloc, found.len())?;
-    for stored in found {
-        rows.push(schemas.lift(stored.row(), stored.ver())?)?;
+    let mut rows = RowsBuilder::with_capacity(alloc, found.len(), 0, 0)?;
+    for numbered in found {
+        rows.push_values(numbered.values())?;
+        schemas.lift_begun(numbered.ver(), &mut rows)?;
+        rows.end_row()?;
     }
-    Ok(Rows::from_vec(rows))
+    Ok(rows.finish())
 }
 
 /// The first of the box's unexpired rows in the query's order, up to its limit, under the newest schema.
@@ -60,7 +62,7 @@ pub fn page_of(
     schemas: &Schemas,
     query: &Query,
     since: u64,
-    rows: &[Stored],
+    rows: &[NumberedRow],
 ) -> Result<Page, NoMemory>
     ensures { IfOk result (λ page. IsPage schemas.now query.now since rows.now page.rows page.more) }
 {

@@ -8,6 +8,3 @@ mod tablets;
 pub use law::unmerged_sizes_halve;
 pub use planning::{MOST_BYTES, plan};
 pub use tablets::{Run, Weigh};
-
-#[cfg(test)]
-mod tests;

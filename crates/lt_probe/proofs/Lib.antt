@@ -6,8 +6,8 @@ mod Keys
 mod Tablets
 mod Picking
 mod Later
-mod Range
+pub mod Range
 mod Times
 mod WholeStem
 mod OneTablet
-mod ManyTablets
+pub mod ManyTablets

@@ -28,10 +28,10 @@ is_some None = false
 is_some (Some hash) = true
 
 -- what is kept of a question
-pub record IsAsked (q : Question) (lo hi : Cut) (area : RawBox) (hash : Option ℕ) : Type 0 where
+pub record IsAsked (q : Question) (lo hi : Cut) (raw_box : RawBox) (hash : Option ℕ) : Type 0 where
   pub lo_is : lo ≡ cut_before q.prefix
   pub hi_is : hi ≡ cut_behind q.prefix
-  pub area_is : area ≡ prefix_box q.prefix q.since
+  pub raw_box_is : raw_box ≡ prefix_box q.prefix q.since
   pub hash_is : hash ≡ hash_if q.prefix q.whole
 
 -- the filter isn't asked, or admits the prefix

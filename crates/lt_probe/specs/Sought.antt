@@ -16,5 +16,5 @@ key_box key = record { lo = Some (cut_before key); hi = Some (cut_before (key ++
 -- what is known of a key that is long enough to have a timestamp
 pub record IsSought (key : List ℕ) (s : Sought) : Type 0 where
   pub cut : s.cut ≡ cut_before key
-  pub area : 8 ≤ length key → s.area ≡ key_box key
+  pub raw_box : 8 ≤ length key → s.raw_box ≡ key_box key
   pub hash : 8 ≤ length key → s.hash ≡ hash_of (stem_of key)

@@ -16,7 +16,7 @@ use std::marker::Model;
 pub struct Asked {
     lo: Cut,
     hi: Cut,
-    area: RawBox,
+    raw_box: RawBox,
     hash: Option<u64>,
 }
 
@@ -25,16 +25,16 @@ impl Model for Asked {
 
     ghost Value = { Question };
 
-    ghost view = { λ a. record { prefix = a.lo.bytes; whole = is_some a.hash; since = a.area.from } };
+    ghost view = { λ a. record { prefix = a.lo.bytes; whole = is_some a.hash; since = a.raw_box.from } };
 
-    ghost invariant = { λ a. IsAsked (record { prefix = a.lo.bytes; whole = is_some a.hash; since = a.area.from }) a.lo a.hi a.area a.hash };
+    ghost invariant = { λ a. IsAsked (record { prefix = a.lo.bytes; whole = is_some a.hash; since = a.raw_box.from }) a.lo a.hi a.raw_box a.hash };
 }
 
 impl Asked {
     pub fn new(alloc: Global, prefix: &[u8], whole: bool, since: u64) -> Result<Asked, NoMemory>
         ensures { IfOk result (λ asked. asked ≡ record { prefix = prefix.now; whole = whole; since = since }) }
     {
-        let area = RawBox {
+        let raw_box = RawBox {
             lo: Some(before(alloc, prefix)?),
             hi: Some(behind_all(alloc, prefix)?),
             from: since,
@@ -43,7 +43,12 @@ impl Asked {
         let lo = before(alloc, prefix)?;
         let hi = behind_all(alloc, prefix)?;
         let hash = hash_of_whole(prefix, whole);
-        Ok(Asked { lo, hi, area, hash })
+        Ok(Asked {
+            lo,
+            hi,
+            raw_box,
+            hash,
+        })
     }
 
     pub fn lo(&self) -> &Cut
@@ -58,16 +63,16 @@ impl Asked {
         &self.hi
     }
 
-    pub fn area(&self) -> &RawBox
+    pub fn raw_box(&self) -> &RawBox
         ensures { result.now ≡ prefix_box self.now.prefix self.now.since }
     {
-        &self.area
+        &self.raw_box
     }
 
     pub fn since(&self) -> u64
         ensures { result ≡ self.now.since }
     {
-        self.area.from
+        self.raw_box.from
     }
 
     pub fn is_whole(&self) -> bool

@@ -46,13 +46,13 @@ fn number_of<V: Device, L: Ledger>(
     if key.len() < Rec::SHORTEST_KEY {
         return Ok(None);
     }
-    if !may_have_time(tablet, sought.area.from) {
+    if !may_have_time(tablet, sought.raw_box.from) {
         return Ok(None);
     }
     if !tablet.filter().may(sought.hash) {
         return Ok(None);
     }
-    let (from, to) = tablet.index_range(&sought.area);
+    let (from, to) = tablet.index_range(&sought.raw_box);
     prove!(to <= count);
     if from >= to {
         return Ok(None);

@@ -8,8 +8,10 @@ ghost use Rattle.lt_tablet.specs.Causes.{IsNoBad, IsOfFile};
 ghost use Rattle.lt_tablet.specs.Loaded.{IsTold, blocks_in, records_in};
 ghost use Rattle.lt_probe.specs.Causes.{IsOfOne};
 ghost use Rattle.lt_probe.specs.Counting.{blocks_asked, is_behind};
+ghost use Rattle.lt_probe.specs.Stems.{is_whole};
 ghost use Rattle.lt_probe.specs.Latest.{IsCovered, IsLatest, IsWholeIn, is_asked, records_of};
 
+use crate::Stem;
 use crate::asked::Asked;
 use crate::block::latest_in;
 use lt_io::Device;
@@ -68,7 +70,7 @@ fn latest_of_blocks<V: Device, L: Ledger>(
     steps: &mut Steps<L>,
 ) -> Result<Option<Rec>, ReadError>
     requires within { to ≤ length tablet.now.index }
-    requires told { V.honest ≡ true → IsTold tablet.now }
+    requires honest { V.honest ≡ true → IsTold tablet.now }
     ensures value { V.honest ≡ true → IfOk result (IsLatest (joined (take (to - from) (drop from (blocks_in tablet.now)))) asked.now.prefix asked.now.since best) }
     ensures over_best { IfOk result (λ found. IfSome best (IsCovered found)) }
     ensures ticks { steps.new ≤ steps.old + (to - from) }
@@ -124,7 +126,7 @@ fn latest_of<V: Device, L: Ledger>(
     if asked.is_denied_by(tablet.filter()) {
         return Ok(best);
     }
-    let (from, to) = tablet.index_range(asked.area());
+    let (from, to) = tablet.index_range(asked.raw_box());
     prove!(to <= count);
     let first = first_read(asked, from, to);
     latest_of_blocks(alloc, dev, asked, tablet, first, to, best, steps)
@@ -163,20 +165,20 @@ pub fn latest<V: Device, L: Ledger>(
     alloc: Global,
     dev: &mut V,
     prefix: &[u8],
-    whole: bool,
+    stem: Stem,
     since: u64,
     tablets: &[Arc<Tablet<V>>],
     best: Option<Rec>,
     steps: &mut Steps<L>,
 ) -> Result<Option<Rec>, ReadError>
-    requires whole { V.honest ≡ true → whole ≡ true → IsWholeIn (records_of (map arc_value tablets.now)) prefix.now }
+    requires whole { V.honest ≡ true → is_whole stem ≡ true → IsWholeIn (records_of (map arc_value tablets.now)) prefix.now }
     requires best { IfSome best (λ b. is_asked prefix.now since b ≡ true) }
     ensures value { V.honest ≡ true → IfOk result (IsLatest (records_of (map arc_value tablets.now)) prefix.now since best) }
-    ensures ticks { steps.new ≤ steps.old + sum_by (blocks_asked (record { prefix = prefix.now; whole = whole; since = since }) best) (map arc_value tablets.now) }
+    ensures ticks { steps.new ≤ steps.old + sum_by (blocks_asked (record { prefix = prefix.now; whole = is_whole stem; since = since }) best) (map arc_value tablets.now) }
     ensures never_bad { V.honest ≡ true → IfErr result IsNoBad }
     ensures names { IfErr result (IsOfOne (map arc_value tablets.now)) }
     ensures cause { Counts (V.faults dev.old) (V.faults dev.new) (IsErrOf result ReadError.Fault) }
 {
-    let asked = Asked::new(alloc, prefix, whole, since)?;
+    let asked = Asked::new(alloc, prefix, stem.is_whole(), since)?;
     latest_among(alloc, dev, &asked, tablets, best, steps)
 }

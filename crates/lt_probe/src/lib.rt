@@ -6,9 +6,8 @@ mod block;
 mod by_key;
 mod by_prefix;
 mod sought;
+mod stem;
 
 pub use by_key::present;
 pub use by_prefix::latest;
-
-#[cfg(test)]
-mod tests;
+pub use stem::Stem;

@@ -10,7 +10,7 @@ use std::alloc::Global;
 #[derive(Drop)]
 pub struct Sought {
     pub cut: Cut,
-    pub area: RawBox,
+    pub raw_box: RawBox,
     pub hash: u64,
 }
 
@@ -20,14 +20,14 @@ impl Sought {
     {
         let (stem, time) = parts_of(key);
         let hash = stem_hash(stem);
-        let area = RawBox {
+        let raw_box = RawBox {
             lo: Some(before(alloc, key)?),
             hi: Some(behind(alloc, key)?),
             from: time,
             to: time,
         };
         let cut = before(alloc, key)?;
-        Ok(Sought { cut, area, hash })
+        Ok(Sought { cut, raw_box, hash })
     }
 }
 

@@ -1,5 +1,7 @@
 mod Fronts
-mod Parts
 mod Numbers
 mod Pieces
 mod Joined
+pub mod Reading
+pub mod Stored
+pub mod NumberOrder

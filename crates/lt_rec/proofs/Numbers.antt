@@ -1,22 +1,18 @@
--- A number's bytes, and those behind it, are what was read.
-use Rattle.std.proofs.Common.{◌≡◌, ℕ, zero, suc, ◌≤◌, ◌<◌, List, [], ◌∷◌, ◌++◌, length, take, drop, get_or, sym, ◌∙◌, arith}
-use Rattle.std.specs.Int.{w32, w64, to_be_bytes, from_be_bytes}
-use Rattle.std.proofs.lemmas.Nat.{be_bytes_4, be_bytes_8}
+-- What `byteorder` reads is the number of the first bytes.
+use Rattle.std.proofs.Common.{◌≡◌, ℕ, ◌≤◌, List, length, take, drop, sym, ap, ◌∙◌, arith}
+use Rattle.std.specs.Int.{w32, w64, from_be_bytes}
 use Rattle.std.proofs.lemmas.List.{length-take-le, take-append-drop}
+use Rattle.byteorder.specs.Endian.{big_number}
+use Rattle.byteorder.specs.Numbers.{big_from-append}
 
-abbrev pub AreBytes : List ℕ → Type 0
-AreBytes xs = (i : ℕ) → get_or xs i 0 < 256
+pub read_4 : (xs : List ℕ) → 4 ≤ length xs → big_number 4 xs ≡ from_be_bytes w32 (take 4 xs)
+read_4 xs enough =
+    let first = big_from-append 4 (take 4 xs) (drop 4 xs) (omega (arith, length-take-le 4 xs enough)) in
+    let whole : big_number 4 xs ≡ big_number 4 (take 4 xs) = ap (big_number 4) (sym (take-append-drop 4 xs)) ∙ first in
+    whole ∙ omega arith
 
-front_fits : (n : ℕ) (xs : List ℕ) → AreBytes xs → AreBytes (take n xs)
-front_fits zero xs fits i = omega arith
-front_fits (suc n) [] fits i = omega arith
-front_fits (suc n) (x ∷ xs) fits zero = fits 0
-front_fits (suc n) (x ∷ xs) fits (suc i) = front_fits n xs (λ j. fits (suc j)) i
-
-pub spelled_4 : (xs left : List ℕ) (n : ℕ) → AreBytes xs → 4 ≤ length xs → n ≡ from_be_bytes w32 (take 4 xs) → left ≡ drop 4 xs → xs ≡ to_be_bytes w32 n ++ left
-spelled_4 xs left n fits enough value rest =
-    sym (take-append-drop 4 xs) ∙ (λ i. sym (be_bytes_4 (take 4 xs) n (length-take-le 4 xs enough) (front_fits 4 xs fits) value) i ++ sym rest i)
-
-pub spelled_8 : (xs left : List ℕ) (n : ℕ) → AreBytes xs → 8 ≤ length xs → n ≡ from_be_bytes w64 (take 8 xs) → left ≡ drop 8 xs → xs ≡ to_be_bytes w64 n ++ left
-spelled_8 xs left n fits enough value rest =
-    sym (take-append-drop 8 xs) ∙ (λ i. sym (be_bytes_8 (take 8 xs) n (length-take-le 8 xs enough) (front_fits 8 xs fits) value) i ++ sym rest i)
+pub read_8 : (xs : List ℕ) → 8 ≤ length xs → big_number 8 xs ≡ from_be_bytes w64 (take 8 xs)
+read_8 xs enough =
+    let first = big_from-append 8 (take 8 xs) (drop 8 xs) (omega (arith, length-take-le 8 xs enough)) in
+    let whole : big_number 8 xs ≡ big_number 8 (take 8 xs) = ap (big_number 8) (sym (take-append-drop 8 xs)) ∙ first in
+    whole ∙ omega arith

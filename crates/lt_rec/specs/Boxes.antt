@@ -21,7 +21,7 @@ meets_hi (Some cut) key = is_below cut key
 
 -- the key meets both key bounds, and the timestamp is from `from` to `to`, both included
 abbrev pub admits : RawBox → List ℕ → ℕ → Bool
-admits area key ts = (meets_lo area.lo key && meets_hi area.hi key) && (nat_le area.from ts && nat_le ts area.to)
+admits raw_box key ts = (meets_lo raw_box.lo key && meets_hi raw_box.hi key) && (nat_le raw_box.from ts && nat_le ts raw_box.to)
 
 abbrev pub in_box : RawBox → Record → Bool
-in_box area r = admits area r.key r.ts
+in_box raw_box r = admits raw_box r.key r.ts

@@ -1,6 +1,7 @@
 pub mod Bytes
 pub mod Record
-pub mod Whole
+pub mod Reading
 pub mod Boxes
 pub mod Periods
 pub mod Records
+pub mod Closure

@@ -1,6 +1,6 @@
 -- A record: a row as bytes, with its number and the version of the schema that it was written under.
 use Rattle.std.specs.Prelude.{◌≡◌, ℕ, ◌+◌, ◌-◌, ◌^◌, ◌<◌, ◌≤◌, List, ◌++◌, length, take, drop}
-use Rattle.std.specs.Int.{w64, to_be_bytes, from_be_bytes}
+use Rattle.std.specs.Int.{w32, w64, to_be_bytes, from_be_bytes}
 
 pub record Record : Type 0 where
   pub key : List ℕ
@@ -31,13 +31,30 @@ pub record IsRecord (r : Record) : Type 0 where
 abbrev pub stored_len : Record → ℕ
 stored_len r = 20 + length r.key + length r.body
 
--- a record whose key and body lie one behind the other
-abbrev pub record_in : List ℕ → ℕ → ℕ → ℕ → ℕ → Record
-record_in bytes key_len ts seq ver = record { key = take key_len bytes; ts = ts; seq = seq; ver = ver; body = drop key_len bytes }
+-- the bytes of a record: the two lengths, the number, the version, the key, the body
+abbrev pub spelled : Record → List ℕ
+spelled r = to_be_bytes w32 (length r.key) ++ (to_be_bytes w32 (length r.body) ++ (to_be_bytes w64 r.seq ++ (to_be_bytes w32 r.ver ++ (r.key ++ r.body))))
 
-abbrev pub bytes_in : Record → List ℕ
-bytes_in r = r.key ++ r.body
+abbrev pub made : List ℕ → ℕ → ℕ → List ℕ → Record
+made key seq ver body = record { key = key; ts = time_of key; seq = seq; ver = ver; body = body }
 
-pub record IsWhole (bytes : List ℕ) (key_len : ℕ) (ts : ℕ) (seq : ℕ) (ver : ℕ) : Type 0 where
-  pub within : key_len ≤ length bytes
-  pub lawful : IsRecord (record_in bytes key_len ts seq ver)
+-- how many bytes of key the bytes of a record say
+abbrev pub key_len_in : List ℕ → ℕ
+key_len_in bytes = from_be_bytes w32 (take 4 bytes)
+
+-- the record that the bytes spell
+abbrev pub stored_record : List ℕ → Record
+stored_record bytes = made (take (key_len_in bytes) (drop 20 bytes)) (from_be_bytes w64 (take 8 (drop 8 bytes))) (from_be_bytes w32 (take 4 (drop 16 bytes))) (drop (key_len_in bytes) (drop 20 bytes))
+
+-- the bytes of a record
+pub record IsStored (bytes : List ℕ) : Type 0 where
+  pub whole : 20 + key_len_in bytes ≤ length bytes
+  pub lawful : IsRecord (stored_record bytes)
+  pub spelling : spelled (stored_record bytes) ≡ bytes
+
+-- bytes that begin with those of a record
+pub record BeginsWith (bytes : List ℕ) : Type 0 where
+  pub rec : Record
+  pub rest : List ℕ
+  pub lawful : IsRecord rec
+  pub is : bytes ≡ spelled rec ++ rest

@@ -9,12 +9,12 @@ use Rattle.lt_schema.specs.declared.row.RowFault.{RowFault}
 use Rattle.lt_schema.specs.declared.row.RowFault.TheVariants as row_faults
 use Rattle.lt_schema.specs.declared.change.AlterError.{AlterError}
 use Rattle.lt_schema.specs.declared.change.AlterError.TheVariants.{Exists, TooMany, BadDefault, NoColumn, NotInt32}
-use Rattle.lt_reply.specs.declared.bound_fault.BoundFault.{BoundFault}
-use Rattle.lt_reply.specs.declared.bound_fault.BoundFault.TheVariants as bound_faults
-use Rattle.lt_reply.specs.declared.upkeep.MergeEnd.{MergeEnd}
-use Rattle.lt_reply.specs.declared.upkeep.MergeEnd.TheVariants.{Merged, Emptied, Gone}
-use Rattle.lt_reply.specs.declared.reply.Reply.{Reply}
-use Rattle.lt_reply.specs.declared.reply.Reply.TheVariants.{BadLine, Inserted, BadRow, TooOld, Present, Spent, Rows, Latest, BadLimit, BadBound, Flushed, NoTablet, Upkept, Version, Refused, Tablets, Damaged, Fault, NoMemory}
+use Rattle.lt_command.specs.declared.bound_fault.BoundFault.{BoundFault}
+use Rattle.lt_command.specs.declared.bound_fault.BoundFault.TheVariants as bound_faults
+use Rattle.lt_command.specs.declared.upkeep.MergeEnd.{MergeEnd}
+use Rattle.lt_command.specs.declared.upkeep.MergeEnd.TheVariants.{Merged, Emptied, Gone}
+use Rattle.lt_command.specs.declared.reply.Reply.{Reply}
+use Rattle.lt_command.specs.declared.reply.Reply.TheVariants.{BadLine, Inserted, BadRow, TooOld, Present, Spent, Rows, Latest, BadLimit, BadBound, Flushed, NoTablet, Upkept, Version, Refused, Tablets, Damaged, Fault, NoMemory}
 
 -- a line and its LF
 abbrev pub line_of : List ℕ → List ℕ
@@ -88,7 +88,7 @@ abbrev pub spaced_number : ℕ → List ℕ
 spaced_number n = 32 ∷ decimal n
 
 abbrev pub flushed_text : ℕ → List ℕ → List ℕ
-flushed_text upto tablets = codes "flushed " ++ decimal upto ++ codes " tablets" ++ flat_map spaced_number tablets
+flushed_text kept tablets = codes "flushed " ++ decimal kept ++ codes " tablets" ++ flat_map spaced_number tablets
 
 -- what became of the inputs of a merge
 abbrev pub end_text : MergeEnd → List ℕ
@@ -131,7 +131,7 @@ reply_text_of (Rows rows more place since) = rows_text rows more place since
 reply_text_of (Latest row place since) = latest_text row place since
 reply_text_of (BadLimit given) = line_of (codes "bad limit " ++ decimal given)
 reply_text_of (BadBound fault) = line_of (bound_fault_text fault)
-reply_text_of (Flushed upto tablets) = line_of (flushed_text upto tablets)
+reply_text_of (Flushed kept tablets) = line_of (flushed_text kept tablets)
 reply_text_of (NoTablet id) = line_of (codes "no tablet " ++ decimal id)
 reply_text_of (Upkept low run end swept) = line_of (upkept_text low run end swept)
 reply_text_of (Version version) = line_of (codes "version " ++ decimal version)
@@ -149,6 +149,6 @@ client_line name = line_of (codes "client " ++ name)
 abbrev pub block_text : List ℕ → List Reply → List ℕ
 block_text name replies = client_line name ++ flat_map reply_text_of replies
 
--- the last line of a session: its next and its settled number
+-- the last line of a session: its next and its kept number
 abbrev pub end_line : ℕ → ℕ → List ℕ
 end_line next kept = line_of (codes "end next " ++ decimal next ++ codes " kept " ++ decimal kept)

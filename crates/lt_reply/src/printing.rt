@@ -1,10 +1,10 @@
 //! The texts of replies, of the line that begins a client's block, and of a session's last line.
 ghost use Rattle.std.specs.Prelude.{◌≡◌, ◌∷◌, ◌++◌, [], IfOk, OnOk, codes, decimal, length};
 ghost use Rattle.std.specs.List.{flat_map};
-ghost use Rattle.lt_reply.specs.Texts.{bound_fault_text, client_line, end_line, end_text, flushed_text, latest_text, line_of, place_text, refusal_text, reply_text_of, row_fault_text, row_line, rows_text, run_text, sizes_text, spaced_number, tablet_line, tablets_text, times_text, upkept_text};
+ghost use Rattle.lt_reply.specs.Texts.{bound_fault_text, client_line, end_line, end_text, flushed_text, latest_text, line_of, place_text, refusal_text, reply_text_of, row_fault_text, rows_text, run_text, sizes_text, spaced_number, tablet_line, tablets_text, times_text, upkept_text};
 
-use crate::values::{put_number, put_row};
-use crate::{BoundFault, MergeEnd, Reply};
+use crate::values::{put_lines, put_number, put_row};
+use lt_command::{BoundFault, MergeEnd, Reply};
 use lt_rec::{Label, Listed, NoMemory, Octets};
 use lt_schema::{AlterError, Row, RowFault, Rows};
 use std::alloc::Global;
@@ -75,18 +75,9 @@ fn put_refusal(out: &mut Vec<u8>, why: AlterError) -> Result<(), NoMemory>
     }
 }
 
-fn put_each(out: &mut Vec<u8>, rows: &[Row]) -> Result<(), NoMemory>
-    ensures { OnOk result (out.new.items ≡ out.old.items ++ flat_map row_line rows.now) }
-{
-    for row in rows {
-        put_row(out, row)?;
-    }
-    Ok(())
-}
-
 fn put_rows(
     out: &mut Vec<u8>,
-    rows: &[Row],
+    rows: &Rows,
     more: bool,
     place: u64,
     since: u64,
@@ -101,7 +92,7 @@ fn put_rows(
     out.extend_from_slice(b"rows ")?;
     put_number(out, rows.len() as u64)?;
     put_two(out, words, place, b" since ", since)?;
-    put_each(out, rows)
+    put_lines(out, rows)
 }
 
 fn put_latest(out: &mut Vec<u8>, row: &Option<Row>, place: u64, since: u64) -> Result<(), NoMemory>
@@ -134,10 +125,10 @@ fn put_named(out: &mut Vec<u8>, words: &[u8], number: u64) -> Result<(), NoMemor
     Ok(())
 }
 
-fn put_flushed(out: &mut Vec<u8>, upto: u64, tablets: &[u64]) -> Result<(), NoMemory>
-    ensures { OnOk result (out.new.items ≡ out.old.items ++ line_of (flushed_text upto tablets.now)) }
+fn put_flushed(out: &mut Vec<u8>, kept: u64, tablets: &[u64]) -> Result<(), NoMemory>
+    ensures { OnOk result (out.new.items ≡ out.old.items ++ line_of (flushed_text kept tablets.now)) }
 {
-    put_named(out, b"flushed ", upto)?;
+    put_named(out, b"flushed ", kept)?;
     out.extend_from_slice(b" tablets")?;
     put_numbers(out, tablets)?;
     out.push(b'\n')?;
@@ -232,11 +223,11 @@ pub fn put_reply(out: &mut Vec<u8>, reply: &Reply) -> Result<(), NoMemory>
             more,
             place,
             since,
-        } => put_rows(out, rows.as_slice(), *more, *place, *since),
+        } => put_rows(out, rows, *more, *place, *since),
         Reply::Latest { row, place, since } => put_latest(out, row, *place, *since),
         Reply::BadLimit { given } => put_one(out, b"bad limit ", *given),
         Reply::BadBound { fault } => put_bound_fault(out, *fault),
-        Reply::Flushed { upto, tablets } => put_flushed(out, *upto, tablets.as_slice()),
+        Reply::Flushed { kept, tablets } => put_flushed(out, *kept, tablets.as_slice()),
         Reply::NoTablet { id } => put_one(out, b"no tablet ", *id),
         Reply::Upkept {
             low,
@@ -270,7 +261,7 @@ pub fn put_client(out: &mut Vec<u8>, name: &Label) -> Result<(), NoMemory>
     put_words(out, name.as_slice())
 }
 
-/// Appends a session's last line, with its next and its settled number.
+/// Appends a session's last line, with its next and its kept number.
 pub fn put_end(out: &mut Vec<u8>, next: u64, kept: u64) -> Result<(), NoMemory>
     ensures { OnOk result (out.new.items ≡ out.old.items ++ end_line next kept) }
 {

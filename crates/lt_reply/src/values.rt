@@ -2,11 +2,12 @@
 ghost use Rattle.std.specs.Prelude.{◌≡◌, ◌<◌, ◌++◌, OnOk, decimal};
 ghost use Rattle.std.specs.List.{flat_map, list_all};
 ghost use Rattle.std.specs.Fmt.{signed_decimal};
-ghost use Rattle.lt_reply.specs.Texts.{is_plain, hex_byte, hex_digit, quoted_byte, row_line, spaced_value, value_text};
+ghost use Rattle.lt_reply.specs.Texts.{is_plain, hex_byte, hex_digit, quoted_byte, row_line, spaced_value};
+ghost use Rattle.lt_schema.specs.Packing.{value_of};
 
 use itoa::Buffer;
 use lt_rec::NoMemory;
-use lt_schema::{Row, Value};
+use lt_schema::{Row, RowView, Rows, ValueView};
 
 /// Appends a number's decimal digits.
 pub fn put_number(out: &mut Vec<u8>, number: u64) -> Result<(), NoMemory>
@@ -97,30 +98,23 @@ fn put_bytes(out: &mut Vec<u8>, bytes: &[u8]) -> Result<(), NoMemory>
     Ok(())
 }
 
-fn put_value(out: &mut Vec<u8>, value: &Value) -> Result<(), NoMemory>
-    ensures { OnOk result (out.new.items ≡ out.old.items ++ value_text value.now) }
+fn put_value(out: &mut Vec<u8>, value: ValueView<'_>) -> Result<(), NoMemory>
+    ensures { OnOk result (out.new.items ≡ out.old.items ++ spaced_value (value_of value.entry)) }
 {
     match value {
-        Value::Int(integer) => put_integer(out, *integer)?,
-        Value::Text(text) => {
-            out.push(b'"')?;
-            put_text(out, text.as_slice())?;
+        ValueView::Int(integer) => {
+            out.push(b' ')?;
+            put_integer(out, integer)?;
+        }
+        ValueView::Text(text) => {
+            out.extend_from_slice(b" \"")?;
+            put_text(out, text.as_bytes())?;
             out.push(b'"')?;
         }
-        Value::Blob(bytes) => {
-            out.extend_from_slice(b"0x")?;
-            put_bytes(out, bytes.as_slice())?;
+        ValueView::Blob(bytes) => {
+            out.extend_from_slice(b" 0x")?;
+            put_bytes(out, bytes)?;
         }
-    }
-    Ok(())
-}
-
-fn put_values(out: &mut Vec<u8>, values: &[Value]) -> Result<(), NoMemory>
-    ensures { OnOk result (out.new.items ≡ out.old.items ++ flat_map spaced_value values.now) }
-{
-    for value in values {
-        out.push(b' ')?;
-        put_value(out, value)?;
     }
     Ok(())
 }
@@ -130,7 +124,30 @@ pub fn put_row(out: &mut Vec<u8>, row: &Row) -> Result<(), NoMemory>
     ensures { OnOk result (out.new.items ≡ out.old.items ++ row_line row.now) }
 {
     out.extend_from_slice(b"row")?;
-    put_values(out, row.as_slice())?;
+    for value in row.as_slice() {
+        put_value(out, value.view())?;
+    }
     out.push(b'\n')?;
+    Ok(())
+}
+
+fn put_row_in_place(out: &mut Vec<u8>, row: &RowView<'_>) -> Result<(), NoMemory>
+    ensures { OnOk result (out.new.items ≡ out.old.items ++ row_line row.now) }
+{
+    out.extend_from_slice(b"row")?;
+    for at in 0..row.len() {
+        put_value(out, row.get(at))?;
+    }
+    out.push(b'\n')?;
+    Ok(())
+}
+
+/// Appends the line of each row.
+pub fn put_lines(out: &mut Vec<u8>, rows: &Rows) -> Result<(), NoMemory>
+    ensures { OnOk result (out.new.items ≡ out.old.items ++ flat_map row_line rows.now) }
+{
+    for at in 0..rows.len() {
+        put_row_in_place(out, &rows.row(at))?;
+    }
     Ok(())
 }

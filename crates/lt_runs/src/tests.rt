@@ -1,7 +1,6 @@
 mod creating;
 mod directories;
 mod faults;
-mod sessions;
 mod statuses;
 
 use lt_io::{FixedClock, MemSink, MemSource};
@@ -9,6 +8,7 @@ use lt_memdev::{Fail as Failing, MemDevice, MemDir};
 use lt_rec::Octets;
 use lt_serve::{Status, run};
 use std::alloc::{AllocError, Global};
+use std::process::Abort;
 use std::test::Fail;
 
 pub const SESSION: [&str; 3] = ["run", ".", "--leave"];
@@ -69,4 +69,19 @@ pub(super) fn begun(alloc: Global, create: &[&str], input: &str) -> Result<Ran, 
     let dir = MemDir::new(alloc)?;
     let made = run_over(alloc, dir, &[], create, b"")?;
     run_over(alloc, made.dir, &[], &SESSION, input.as_bytes())
+}
+
+/// Runs the words over an empty directory, without lines.
+fn run_anew(alloc: Global, given: &[&str]) -> Result<Ran, Fail> {
+    run_over(alloc, MemDir::new(alloc)?, &[], given, b"")
+}
+
+/// What a session of these lines writes over a directory.
+fn written(alloc: Global, dir: MemDir, input: &str) -> Result<Vec<u8>, Fail> {
+    Ok(run_over(alloc, dir, &[], &SESSION, input.as_bytes())?.text)
+}
+
+/// Tells the case where another text was written.
+fn same(rt: &impl Abort, found: &[u8], wanted: &str, case: &str) {
+    assert_eq!(rt; found, wanted.as_bytes(), "{case}");
 }

@@ -1,5 +1,3 @@
 pub mod Growing
 pub mod Counting
-mod Items
-mod Reading
-mod Digits
+mod Buffers

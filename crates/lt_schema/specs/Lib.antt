@@ -5,4 +5,5 @@ pub mod Lawful
 pub mod Versions
 pub mod Check
 pub mod Orders
-pub mod FromJson
+pub mod Packing
+pub mod Placing

@@ -1,5 +1,5 @@
 -- Values: their order, their kinds, and how many bytes they take.
-use Rattle.std.specs.Prelude.{ℕ, ◌+◌, ◌^◌, ℤ, pos, negsuc, Bool, true, false, List, length, nat_lt, nat_eq, count_by, take}
+use Rattle.std.specs.Prelude.{ℕ, ◌+◌, ◌^◌, ℤ, pos, negsuc, Bool, true, false, List, [], length, nat_lt, nat_eq, count_by, take}
 use Rattle.std.specs.Ordering.{int_cmp, nat_cmp}
 use Rattle.std.specs.Cmp.Lexicographic.{slice_cmp}
 use Rattle.std.specs.declared.cmp.Ordering.{Ordering}
@@ -55,6 +55,14 @@ is_of_kind TextKind (Int x) = false
 is_of_kind TextKind (Blob x) = false
 is_of_kind BlobKind (Int x) = false
 is_of_kind BlobKind (Text x) = false
+
+-- 0 or empty
+abbrev pub blank_of : Kind → Value
+blank_of Int32 = Int (pos 0)
+blank_of Int64 = Int (pos 0)
+blank_of Time = Int (pos 0)
+blank_of TextKind = Text []
+blank_of BlobKind = Blob []
 
 -- the moment that a time value is
 abbrev pub moment_of : Value → ℕ

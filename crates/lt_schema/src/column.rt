@@ -1,5 +1,4 @@
 ghost use Rattle.std.specs.Prelude.{◌≡◌};
-ghost use Rattle.lt_schema.specs.Lawful.{is_short};
 ghost use Rattle.std.specs.List.{list_all};
 ghost use Rattle.lt_schema.specs.Names.{is_letter, is_name_byte};
 
@@ -29,9 +28,10 @@ impl Model for Column {
 }
 
 impl Column {
-    ghost use Rattle.std.specs.Prelude.{◌≡◌, IsTrue};
-    ghost use Rattle.lt_schema.specs.Names.{is_name};
-    ghost use Rattle.lt_schema.specs.Lawful.{has_lawful_default};
+    ghost use Rattle.std.specs.Prelude.{◌≡◌, ◌&&◌, IsTrue};
+    ghost use Rattle.lt_schema.specs.Names.{is_name, is_name_byte};
+    ghost use Rattle.lt_schema.specs.Lawful.{has_lawful_default, is_short};
+    ghost use Rattle.lt_schema.specs.Values.{is_of_kind};
     ghost use Rattle.lt_schema.specs.declared.kind.Kind.TheVariants.{Int64};
 
     /// The most bytes of a name.
@@ -63,6 +63,13 @@ impl Column {
         }
     }
 
+    /// Whether a name may have this byte: `a` to `z`, `0` to `9` or `_`. Takes no memory.
+    pub fn is_name_byte(byte: u8) -> bool
+        ensures { result ≡ is_name_byte byte }
+    {
+        is_letter(byte) || (b'0' <= byte && byte <= b'9') || byte == b'_'
+    }
+
     pub fn name(&self) -> &Label
         ensures name { result.now ≡ self.now.name }
         ensures lawful { IsTrue (is_name self.now.name) }
@@ -82,11 +89,29 @@ impl Column {
         &self.default
     }
 
+    /// Whether a column of this kind may have this default: it is of the kind, and as a text or bytes has at most 1,024
+    /// bytes. Takes no memory.
+    pub fn is_default(kind: Kind, value: &Value) -> bool
+        ensures { result ≡ (is_of_kind kind value.now && is_short value.now) }
+    {
+        kind.has(value) && Column::is_short(value)
+    }
+
+    fn is_short(value: &Value) -> bool
+        ensures { result ≡ is_short value.now }
+    {
+        match value {
+            Value::Int(_) => true,
+            Value::Text(text) => text.len() <= Column::LONGEST_DEFAULT,
+            Value::Blob(bytes) => bytes.len() <= Column::LONGEST_DEFAULT,
+        }
+    }
+
     /// Whether the default is of the column's kind, and as a text or bytes has at most 1,024 bytes. Takes no memory.
     pub fn has_lawful_default(&self) -> bool
         ensures { result ≡ has_lawful_default self.now }
     {
-        self.kind.has(&self.default) && is_short(&self.default)
+        Column::is_default(self.kind, &self.default)
     }
 
     /// The same column with integers of 64 bits.
@@ -103,32 +128,15 @@ fn is_letter(byte: u8) -> bool
     b'a' <= byte && byte <= b'z'
 }
 
-fn is_name_byte(byte: u8) -> bool
-    ensures { result ≡ is_name_byte byte }
-{
-    is_letter(byte) || (b'0' <= byte && byte <= b'9') || byte == b'_'
-}
-
 fn are_name_bytes(bytes: &[u8]) -> bool
     ensures { result ≡ list_all is_name_byte bytes.now }
 {
     for byte in bytes {
-        if !is_name_byte(*byte) {
+        if !Column::is_name_byte(*byte) {
             return false;
         }
     }
     true
-}
-
-/// Whether it has at most 1,024 bytes as a text or bytes.
-pub(crate) fn is_short(value: &Value) -> bool
-    ensures { result ≡ is_short value.now }
-{
-    match value {
-        Value::Int(_) => true,
-        Value::Text(text) => text.len() <= Column::LONGEST_DEFAULT,
-        Value::Blob(bytes) => bytes.len() <= Column::LONGEST_DEFAULT,
-    }
 }
 
 impl Clone for Column {

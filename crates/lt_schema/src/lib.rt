@@ -6,23 +6,24 @@ mod change;
 mod changing;
 mod checking;
 mod column;
-mod hex;
-mod json;
 mod kind;
+mod packed;
 mod row;
+mod row_view;
+mod rows;
 mod schema;
 mod schemas;
 mod value;
+mod value_view;
 
 pub use change::{AlterError, Change};
 pub use checking::{body_len_in_bytes, key_len_in_bytes};
 pub use column::{Column, Columns};
-pub use json::SchemaError;
 pub use kind::Kind;
-pub use row::{Row, RowFault, Rows};
+pub use row::{Row, RowFault};
+pub use row_view::RowView;
+pub use rows::{Rows, RowsBuilder};
 pub use schema::Schema;
 pub use schemas::Schemas;
 pub use value::{Value, key_cmp};
-
-#[cfg(test)]
-mod tests;
+pub use value_view::ValueView;

@@ -56,46 +56,6 @@ impl Clone for Row {
     }
 }
 
-/// Rows in order. Contracts see the list of them.
-#[derive(Debug, Drop)]
-pub struct Rows {
-    rows: Vec<Row>,
-}
-
-impl Model for Rows {
-    ghost use Rattle.std.specs.Prelude.{List};
-    ghost use Rattle.lt_schema.specs.declared.value.Value.{Value as Datum};
-
-    ghost Value = { List (List Datum) };
-
-    ghost view = { λ r. r.rows.items };
-}
-
-impl Rows {
-    ghost use Rattle.std.specs.Prelude.{◌≡◌};
-
-    /// The same rows. Takes no memory.
-    pub fn from_vec(rows: Vec<Row>) -> Rows
-        ensures { result ≡ rows.items }
-    {
-        Rows { rows }
-    }
-
-    /// The rows given back. Takes no memory.
-    pub fn into_vec(self) -> Vec<Row>
-        ensures { result.items ≡ self }
-    {
-        let Rows { rows } = self;
-        rows
-    }
-
-    pub fn as_slice(&self) -> &[Row]
-        ensures { result.now ≡ self.now }
-    {
-        self.rows.as_slice()
-    }
-}
-
 /// Why a row does not pass a schema: the first of these that holds.
 #[derive(Clone, Copy, Debug, PartialEq, Eq)]
 pub enum RowFault {

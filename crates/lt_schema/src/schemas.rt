@@ -1,7 +1,7 @@
 ghost use Rattle.std.specs.Prelude.{◌≡◌, ◌∷◌, [], OnOk};
 ghost use Rattle.lt_schema.specs.Versions.{lifted_over};
 
-use crate::{AlterError, Change, Row, Schema, Value};
+use crate::{AlterError, Change, Row, RowsBuilder, Schema, Value};
 use lt_rec::NoMemory;
 use std::alloc::{AllocError, Global};
 use std::marker::Model;
@@ -27,7 +27,7 @@ impl Model for Schemas {
 }
 
 impl Schemas {
-    ghost use Rattle.std.specs.Prelude.{◌≡◌, ◌≤◌, ◌++◌, ◌∷◌, [], length, IsTrue, IfOk, MatchResult, Some, None, nat_le, option_copied, if◌then◌else◌};
+    ghost use Rattle.std.specs.Prelude.{◌≡◌, ◌≤◌, ◌++◌, ◌∷◌, [], length, IsTrue, IfOk, OnOk, MatchResult, Some, None, nat_le, option_copied, if◌then◌else◌};
     ghost use Rattle.lt_schema.specs.Lawful.{is_schema};
     ghost use Rattle.lt_schema.specs.Versions.{newest, newest_version, schema_at, alter_refusal, lift_to_newest, is_versions};
 
@@ -121,6 +121,36 @@ impl Schemas {
         lift_over(&mut values, since)?;
         Ok(Row::from_vec(values))
     }
+
+    /// Lifts the row that was begun, in place: it is of a version, and becomes one of the newest.
+    pub fn lift_begun(&self, ver: u32, rows: &mut RowsBuilder) -> Result<(), NoMemory>
+        ensures lifted { OnOk result (rows.new ≡ record { rows = rows.old.rows; row = lift_to_newest self.now rows.old.row ver }) }
+        ensures whole { rows.new.rows ≡ rows.old.rows }
+    {
+        let changes = self.changes.as_slice();
+        let (_, since) = changes.split_at(changes.len().min(ver as usize));
+        push_over(rows, since)
+    }
+}
+
+fn push_over(rows: &mut RowsBuilder, changes: &[Change]) -> Result<(), NoMemory>
+    ensures lifted { OnOk result (rows.new ≡ record { rows = rows.old.rows; row = lifted_over changes.now rows.old.row }) }
+    ensures whole { rows.new.rows ≡ rows.old.rows }
+{
+    for change in changes {
+        push_one(rows, change)?;
+    }
+    Ok(())
+}
+
+fn push_one(rows: &mut RowsBuilder, change: &Change) -> Result<(), NoMemory>
+    ensures lifted { OnOk result (rows.new ≡ record { rows = rows.old.rows; row = lifted_over (change.now ∷ []) rows.old.row }) }
+    ensures whole { rows.new.rows ≡ rows.old.rows }
+{
+    if let Change::Append(column) = change {
+        rows.push(column.default().view())?;
+    }
+    Ok(())
 }
 
 fn lift_over(values: &mut Vec<Value>, changes: &[Change]) -> Result<(), NoMemory>

@@ -1,6 +1,7 @@
 ghost use Rattle.std.specs.Prelude.{◌≡◌};
 ghost use Rattle.lt_schema.specs.Values.{key_cmp};
 
+use crate::ValueView;
 use lt_rec::{Label, Octets};
 use std::alloc::AllocError;
 use std::cmp::Ordering;
@@ -11,6 +12,22 @@ pub enum Value {
     Int(i64),
     Text(Label),
     Blob(Octets),
+}
+
+impl Value {
+    ghost use Rattle.std.specs.Prelude.{◌≡◌};
+    ghost use Rattle.lt_schema.specs.Packing.{value_of};
+
+    /// The value in place.
+    pub fn view(&self) -> ValueView<'_>
+        ensures { value_of result ≡ self.now }
+    {
+        match self {
+            Value::Int(number) => ValueView::Int(*number),
+            Value::Text(text) => ValueView::Text(text.as_text()),
+            Value::Blob(bytes) => ValueView::Blob(bytes.as_slice()),
+        }
+    }
 }
 
 impl Clone for Value {

@@ -7,9 +7,9 @@ use Rattle.lt_lang.specs.Lines.{cut_lines}
 use Rattle.lt_lang.specs.Parsing.{line_at}
 use Rattle.lt_lang.proofs.Exactly.{line_spelled}
 use Rattle.lt_reply.specs.Texts.{reply_text_of, client_line, end_line}
-use Rattle.lt_lang.specs.declared.command.Line.{Line}
-use Rattle.lt_lang.specs.declared.command.Line.TheVariants.{Skip, Bad, Command as CommandLine}
-use Rattle.lt_reply.specs.declared.reply.Reply.{Reply}
+use Rattle.lt_command.specs.declared.command.Line.{Line}
+use Rattle.lt_command.specs.declared.command.Line.TheVariants.{Skip, Bad, Command as CommandLine}
+use Rattle.lt_command.specs.declared.reply.Reply.{Reply}
 use Rattle.lt_model.specs.History.{Opening, History}
 use Rattle.lt_model.specs.Readings.{next, kept}
 use Rattle.lt_model.specs.Session.{Client, Block, Mark, LinesAnswered, IsSession, clients_of}
@@ -17,8 +17,8 @@ use Rattle.lt_model.specs.Growing.{SoFar, seen_after_all}
 use Rattle.lt_model.proofs.Growth.{IsSession-nobody, IsSession-one}
 use Rattle.lt_plain.specs.Table.{IsUndamaged}
 use Rattle.lt_serve.specs.Session.{lines_of, AreSpelled, client_of, MayAnswer, AllMayAnswer, IsBuilt, blocks_text}
-use Rattle.lt_serve.specs.Growing.{told, asks_built, block_head, faults_in, replies_of, AtMostRose, UsesNumbers, HasAnswered, ReadSoFar, IsAnswered}
-use Rattle.lt_serve.proofs.Telling.{told_by_none, clients_of-none, clients_of-ours}
+use Rattle.lt_serve.specs.Growing.{Meter, owned, asks_built, block_head, faults_in, replies_of, AtMostRose, UsesNumbers, HasAnswered, ReadSoFar, IsAnswered}
+use Rattle.lt_serve.proofs.Telling.{owned_by_none, clients_of-none, clients_of-ours}
 use Rattle.lt_serve.proofs.Looked.{all_cut}
 
 -- ---- the line at the front of what is left
@@ -51,9 +51,9 @@ record IsWhole (clock : ℕ → Type 0) (client : Option (List ℕ)) (lines : Li
   written : block_head client ++ flat_map reply_text_of replies ≡ blocks_text blocks
   all : replies_of blocks ≡ replies
 
-session_of_nobody : (clock : ℕ → Type 0) (lines : List Line) (replies : List Reply) (h : History) → AllMayAnswer None lines → SoFar clock 0 (told lines) replies h → IsWhole clock None lines replies h
+session_of_nobody : (clock : ℕ → Type 0) (lines : List Line) (replies : List Reply) (h : History) → AllMayAnswer None lines → SoFar clock 0 (owned lines) replies h → IsWhole clock None lines replies h
 session_of_nobody clock lines replies h all so_far =
-    let own : SoFar clock 0 [] replies h = subst (λ (own : List Line). SoFar clock 0 own replies h) (told_by_none lines all) so_far in
+    let own : SoFar clock 0 [] replies h = subst (λ (own : List Line). SoFar clock 0 own replies h) (owned_by_none lines all) so_far in
     let nothing = nothing_answered clock h replies own.marks own.answered in
     let none : length h.entries ≡ 0 = sym own.all_seen ∙ ap (seen_after_all 0) nothing.1 in
     record {
@@ -63,16 +63,16 @@ session_of_nobody clock lines replies h all so_far =
       all = sym nothing.0;
     }
 
-session_of_one : (clock : ℕ → Type 0) (name : List ℕ) (lines : List Line) (replies : List Reply) (h : History) → client_of lines ≡ Some name → AllMayAnswer (Some name) lines → SoFar clock 0 (told lines) replies h
+session_of_one : (clock : ℕ → Type 0) (name : List ℕ) (lines : List Line) (replies : List Reply) (h : History) → client_of lines ≡ Some name → AllMayAnswer (Some name) lines → SoFar clock 0 (owned lines) replies h
     → IsWhole clock (Some name) lines replies h
 session_of_one clock name lines replies h whose all so_far = record {
   blocks = record { name = name; replies = replies } ∷ [];
-  session = subst (λ (clients : List Client). IsSession clock 0 clients (record { name = name; replies = replies } ∷ []) h) (sym (clients_of-ours name lines whose all)) (IsSession-one clock 0 name (told lines) replies h so_far);
+  session = subst (λ (clients : List Client). IsSession clock 0 clients (record { name = name; replies = replies } ∷ []) h) (sym (clients_of-ours name lines whose all)) (IsSession-one clock 0 name (owned lines) replies h so_far);
   written = sym (append-nil (client_line name ++ flat_map reply_text_of replies));
   all = append-nil replies;
 }
 
-session_of : (clock : ℕ → Type 0) (client : Option (List ℕ)) (lines : List Line) (replies : List Reply) (h : History) → client ≡ client_of lines → AllMayAnswer client lines → SoFar clock 0 (told lines) replies h → IsWhole clock client lines replies h
+session_of : (clock : ℕ → Type 0) (client : Option (List ℕ)) (lines : List Line) (replies : List Reply) (h : History) → client ≡ client_of lines → AllMayAnswer client lines → SoFar clock 0 (owned lines) replies h → IsWhole clock client lines replies h
 session_of clock None lines replies h whose all so_far = session_of_nobody clock lines replies h all so_far
 session_of clock (Some name) lines replies h whose all so_far = session_of_one clock name lines replies h (sym whose) all so_far
 
@@ -80,17 +80,17 @@ all_spelled : (cut : List (List ℕ)) → AreSpelled cut
 all_spelled [] = tt
 all_spelled (bytes ∷ others) = (line_spelled bytes (line_at bytes) refl, all_spelled others)
 
-pub ReadSoFar-begin : (clock : ℕ → Type 0) (opening held : Opening) (client : Option (List ℕ)) (input text : List ℕ) (before now first free : ℕ) → HasAnswered clock opening held client text [] before now first free
-    → ReadSoFar clock opening held client input input text before now first free
-ReadSoFar-begin clock opening held client input text before now first free answered = record { lines = []; cut = refl; answered = answered }
+pub ReadSoFar-begin : (clock : ℕ → Type 0) (opening held : Opening) (client : Option (List ℕ)) (input text : List ℕ) (before now : Meter) → HasAnswered clock opening held client text [] before now
+    → ReadSoFar clock opening held client input input text before now
+ReadSoFar-begin clock opening held client input text before now answered = record { lines = []; cut = refl; answered = answered }
 
-pub IsAnswered-ended : (clock : ℕ → Type 0) (opening held : Opening) (client : Option (List ℕ)) (input rest text whole : List ℕ) (before now first free : ℕ) → ReadSoFar clock opening held client input rest text before now first free → rest ≡ []
-    → IsBuilt input → client ≡ client_of (lines_of input) → whole ≡ text ++ end_line held.next held.kept → IsAnswered clock opening held input whole before now first free
-IsAnswered-ended clock opening held client input rest text whole before now first free so_far ended built whose written =
+pub IsAnswered-ended : (clock : ℕ → Type 0) (opening held : Opening) (client : Option (List ℕ)) (input rest text whole : List ℕ) (before now : Meter) → ReadSoFar clock opening held client input rest text before now → rest ≡ []
+    → IsBuilt input → client ≡ client_of (lines_of input) → whole ≡ text ++ end_line held.next held.kept → IsAnswered clock opening held input whole before now
+IsAnswered-ended clock opening held client input rest text whole before now so_far ended built whose written =
     let answered = so_far.answered in
     let all : so_far.lines ≡ lines_of input = sym (all_cut input rest so_far.lines so_far.cut ended) in
     let session = session_of clock client (lines_of input) answered.replies answered.history whose (subst (λ (own : Option (List ℕ)). AllMayAnswer own (lines_of input)) (sym whose) built)
-    (subst (λ (lines : List Line). SoFar clock 0 (told lines) answered.replies answered.history) all answered.so_far) in
+    (subst (λ (lines : List Line). SoFar clock 0 (owned lines) answered.replies answered.history) all answered.so_far) in
     record {
       whole = record {
         spelled = all_spelled (cut_lines input);
@@ -103,8 +103,8 @@ IsAnswered-ended clock opening held client input rest text whole before now firs
             ∙ ap (λ (blocks : List ℕ). blocks ++ end_line (next answered.history) (kept answered.history)) (answered.written ∙ session.written);
       };
       stands = answered.stands;
-      faults = subst (λ (replies : List Reply). AtMostRose before (faults_in replies) now) (sym session.all) answered.faults;
+      faults = subst (λ (replies : List Reply). AtMostRose before.faults (faults_in replies) now.faults) (sym session.all) answered.faults;
       undamaged = subst (All IsUndamaged) (sym session.all) answered.undamaged;
-      numbers = subst (λ (replies : List Reply). UsesNumbers first (told (lines_of input)) replies free) (sym session.all)
-          (subst (λ (lines : List Line). UsesNumbers first (told lines) answered.replies free) all answered.numbers);
+      numbers = subst (λ (replies : List Reply). UsesNumbers before.next_file (owned (lines_of input)) replies now.next_file) (sym session.all)
+          (subst (λ (lines : List Line). UsesNumbers before.next_file (owned lines) answered.replies now.next_file) all answered.numbers);
     }

@@ -3,8 +3,8 @@ use Rattle.std.proofs.Common.{◌≡◌, ◌⊎◌, ◌≤◌, ◌+◌, ◌-◌,
 use Rattle.std.specs.Prelude.{min}
 use Rattle.std.proofs.lemmas.List.Sums.{sum_by-append}
 use Rattle.lt_io.specs.Device.{Counts}
-use Rattle.lt_reply.specs.declared.reply.Reply.{Reply}
-use Rattle.lt_reply.specs.declared.reply.Reply.TheVariants.{BadLine, Inserted, BadRow, TooOld, Present, Spent, Rows, Latest, BadLimit, BadBound, Flushed, NoTablet, Upkept, Version, Refused, Tablets, Damaged, Fault, NoMemory}
+use Rattle.lt_command.specs.declared.reply.Reply.{Reply}
+use Rattle.lt_command.specs.declared.reply.Reply.TheVariants.{BadLine, Inserted, BadRow, TooOld, Present, Spent, Rows, Latest, BadLimit, BadBound, Flushed, NoTablet, Upkept, Version, Refused, Tablets, Damaged, Fault, NoMemory}
 use Rattle.lt_serve.specs.Growing.{fault_weight, faults_in, AtMostRose}
 
 -- a reply that is none weighs nothing
@@ -19,7 +19,7 @@ weighs (Rows rows more place bound) = inl refl
 weighs (Latest row place bound) = inl refl
 weighs (BadLimit given) = inl refl
 weighs (BadBound fault) = inl refl
-weighs (Flushed upto tablets) = inl refl
+weighs (Flushed kept tablets) = inl refl
 weighs (NoTablet named) = inl refl
 weighs (Upkept low run end swept) = inl refl
 weighs (Version version) = inl refl

@@ -3,7 +3,7 @@ pub mod Making
 pub mod Telling
 pub mod Looked
 pub mod Renewing
-pub mod Told
+pub mod Replied
 pub mod Faults
 pub mod Answering
 pub mod Ending

@@ -5,7 +5,7 @@ use Rattle.std.proofs.lemmas.List.{append-nil, take-append-le}
 use Rattle.std.proofs.Math.Seq.{take-length}
 use Rattle.lt_lang.specs.Lines.{cut_lines}
 use Rattle.lt_lang.specs.Parsing.{line_at}
-use Rattle.lt_lang.specs.declared.command.Line.{Line}
+use Rattle.lt_command.specs.declared.command.Line.{Line}
 use Rattle.lt_model.specs.Session.{name_of}
 use Rattle.lt_serve.specs.Session.{lines_of, first_name, client_of, MayAnswer, AllMayAnswer, IsBuilt, HasOtherLine}
 use Rattle.lt_serve.specs.Looking.{LookedThrough}

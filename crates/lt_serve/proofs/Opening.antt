@@ -30,7 +30,7 @@ use Rattle.lt_plain.specs.Table.{StandsFor}
 use Rattle.lt_serve.specs.Loaded.{durable_by, opening_of}
 use Rattle.lt_serve.specs.Loading.{IsTableOf, LoadsTable}
 use Rattle.lt_serve.specs.Kept.{Head, head_of, TellsOf, Extends, AllTell, Renews, StaysKept}
-use Rattle.lt_serve.specs.Growing.{HasHistory, IsAnswered}
+use Rattle.lt_serve.specs.Growing.{Meter, HasHistory, IsAnswered}
 use Rattle.lt_serve.specs.Stops.{OpensAfter, StopsOpen, Served, RanOn}
 use Rattle.lt_serve.proofs.Renewing.{extends_same}
 use Rattle.lt_serve.proofs.Faults.{faults_from}
@@ -57,21 +57,21 @@ legal_at_first stone lawful =
 
 no_rows : (h : History) (stone : StoneShape) (durable : Durable) → h.opening ≡ opening_of stone → [] ≡ durable_rows (front 0 h) durable
 no_rows h stone durable opened =
-    ap (λ (o : Opening). filter (λ (numbered : Numbered). nat_lt numbered.seq durable.upto && nat_le durable.low (time_in h numbered)) (o.rows ++ [])) (sym opened)
+    ap (λ (o : Opening). filter (λ (numbered : Numbered). nat_lt numbered.seq durable.kept && nat_le durable.low (time_in h numbered)) (o.rows ++ [])) (sym opened)
 
-crash : (h : History) (stone other : StoneShape) → IsLegal h → h.opening ≡ opening_of stone → other.upto ≡ stone.upto → IsCrash h (durable_by other) (opening_of other)
+crash : (h : History) (stone other : StoneShape) → IsLegal h → h.opening ≡ opening_of stone → other.kept ≡ stone.kept → IsCrash h (durable_by other) (opening_of other)
 crash h stone other legal opened same =
-    let begins : h.opening.next ≡ stone.upto = ap (λ (o : Opening). o.next) opened in
+    let begins : h.opening.next ≡ stone.kept = ap (λ (o : Opening). o.next) opened in
     (crashes_by_front 0 h (durable_by other) (opening_of other) legal (omega (arith, begins, same))).0
-    (record { schemas = refl; life = refl; low = refl; next = refl; kept = refl; rows_left = no_rows h stone (durable_by other) opened })
+    (record { schemas = refl; ttl = refl; low = refl; next = refl; kept = refl; rows_left = no_rows h stone (durable_by other) opened })
 
-abbrev opens_after : (h : History) (stone : StoneShape) (head : Head) (image : Image) → IsLegal h → h.opening ≡ opening_of stone → head.upto ≡ stone.upto → TellsOf head image.descriptor → OpensAfter h image
+abbrev opens_after : (h : History) (stone : StoneShape) (head : Head) (image : Image) → IsLegal h → h.opening ≡ opening_of stone → head.kept ≡ stone.kept → TellsOf head image.descriptor → OpensAfter h image
 opens_after h stone head image legal opened same tells = record {
   stone = tells.stone;
   found = opening_of tells.stone;
   opens = record { lawful = tells.lawful; spelled = tells.spelled; read = tells.read; bare = tells.bare; found_is = refl };
-  crash = crash h stone tells.stone legal opened (tells.upto ∙ same);
-  upto = tells.upto ∙ same ∙ ap (λ (o : Opening). o.kept) (sym opened);
+  crash = crash h stone tells.stone legal opened (tells.kept ∙ same);
+  kept = tells.kept ∙ same ∙ ap (λ (o : Opening). o.kept) (sym opened);
 }
 
 -- ---- all moments
@@ -82,19 +82,19 @@ AllTellOf head state = (descriptor : Option (List ℕ)) → Contains state.may d
 still_tell : (head : Head) (before after : State) → Renews head before after → AllTellOf head before → AllTellOf head after
 still_tell head before after renews all d is = ⊎_elim (λ was. all d was) (λ new. new) (renews.old_or_new d is)
 
-module _ (told : Bool) (old middle : Directory) (stone : StoneShape) (lawful : IsStone stone) (bare : stone.tablets ≡ []) (read : stone_at (spelling stone) ≡ Ok stone)
-    (only : told ≡ true → middle.now.may ≡ Some (spelling stone) ∷ []) (no_earlier : told ≡ true → moment old ≤ moment middle) (before : told ≡ true → NothingNew old middle) where
+module _ (honest : Bool) (old middle : Directory) (stone : StoneShape) (lawful : IsStone stone) (bare : stone.tablets ≡ []) (read : stone_at (spelling stone) ≡ Ok stone)
+    (only : honest ≡ true → middle.now.may ≡ Some (spelling stone) ∷ []) (no_earlier : honest ≡ true → moment old ≤ moment middle) (before : honest ≡ true → NothingNew old middle) where
   abbrev tells_first : (d : Option (List ℕ)) → Some (spelling stone) ≡ d → TellsOf (head_of (opening_of stone)) d
-  tells_first d is = record { stone = stone; lawful = lawful; read = read; spelled = sym is; bare = bare; upto = refl; low = refl; life = refl }
+  tells_first d is = record { stone = stone; lawful = lawful; read = read; spelled = sym is; bare = bare; kept = refl; low = refl; ttl = refl }
 
-  is_first : told ≡ true → (d : Option (List ℕ)) → Contains middle.now.may d → Some (spelling stone) ≡ d
+  is_first : honest ≡ true → (d : Option (List ℕ)) → Contains middle.now.may d → Some (spelling stone) ≡ d
   is_first h d is = only_one (Some (spelling stone)) d (subst (λ may. Contains may d) (only h) is)
 
-  all_first : told ≡ true → AllTell (opening_of stone) middle.now
+  all_first : honest ≡ true → AllTell (opening_of stone) middle.now
   all_first h d is = record { tells = tells_first d (is_first h d is); more = extends_same stone.schemas stone.schemas refl }
 
-  pub stops_open : (new : Directory) (held : Opening) (history : History) → history.opening ≡ opening_of stone → IsLegal history → StandsFor held history → StaysKept told (opening_of stone) held middle new
-      → told ≡ true → StopsOpen history old new
+  pub stops_open : (new : Directory) (held : Opening) (history : History) → history.opening ≡ opening_of stone → IsLegal history → StandsFor held history → StaysKept honest (opening_of stone) held middle new
+      → honest ≡ true → StopsOpen history old new
   stops_open new held history opened legal stands stays h =
       let head = head_of (opening_of stone) in
       let steps = stays.any_moment h in
@@ -111,24 +111,24 @@ module _ (told : Bool) (old middle : Directory) (stone : StoneShape) (lawful : I
         acknowledged = λ image possible.
             let all = stays.all_tell h (all_first h) image.descriptor (fits_now new image possible).descriptor in
             record {
-              after = opens_after history stone (head_of held) image legal opened (ap (λ (head : Head). head.upto) stays.head) all.tells;
+              after = opens_after history stone (head_of held) image legal opened (ap (λ (head : Head). head.kept) stays.head) all.tells;
               versions = subst (λ (versions : SchemaVersions). Extends versions all.tells.stone.schemas) (ap (λ (o : Opening). o.schemas) (sym stands)) all.more;
             };
       }
 
 -- the faults are counted from before the loading
-pub answered_from : (clock : ℕ → Type 0) (opening held : Opening) (input text : List ℕ) (before middle now first free : ℕ) → before ≤ middle → IsAnswered clock opening held input text middle now first free
-    → IsAnswered clock opening held input text before now first free
-answered_from clock opening held input text before middle now first free later answered = record {
+pub answered_from : (clock : ℕ → Type 0) (opening held : Opening) (input text : List ℕ) (before middle first : ℕ) (now : Meter) → before ≤ middle → IsAnswered clock opening held input text (record { faults = middle; next_file = first }) now
+    → IsAnswered clock opening held input text (record { faults = before; next_file = first }) now
+answered_from clock opening held input text before middle first now later answered = record {
   whole = answered.whole;
   stands = answered.stands;
-  faults = faults_from before _ middle now answered.faults later;
+  faults = faults_from before _ middle now.faults answered.faults later;
   undamaged = answered.undamaged;
   numbers = answered.numbers;
 }
 
-pub ran_so : (told : Bool) (clock : ℕ → Type 0) (old new : Directory) (input text : List ℕ) (before now : ℕ) → Served told clock old new input text before now → RanOn told old new
-ran_so told clock old new input text before now s = record {
+pub ran_so : (honest : Bool) (clock : ℕ → Type 0) (old new : Directory) (input text : List ℕ) (before now : ℕ) → Served honest clock old new input text before now → RanOn honest old new
+ran_so honest clock old new input text before now s = record {
   stone = s.stone;
   loaded = s.loaded;
   history = s.answered.whole.history;
@@ -137,12 +137,12 @@ ran_so told clock old new input text before now s = record {
   stops = s.stops;
 }
 
-pub served : (told : Bool) (clock : ℕ → Type 0) (old middle new : Directory) (opening held : Opening) (input text : List ℕ) (before now first free : ℕ) → LoadsTable told old opening middle first
-    → IsAnswered clock opening held input text before now first free → new.now.ceiling ≤ free → StaysKept told opening held middle new → Served told clock old new input text before now
-served told clock old middle new opening held input text before now first free loads answered ceiling stays =
+pub served : (honest : Bool) (clock : ℕ → Type 0) (old middle new : Directory) (opening held : Opening) (input text : List ℕ) (before now first free : ℕ) → LoadsTable honest old opening middle first
+    → IsAnswered clock opening held input text (record { faults = before; next_file = first }) (record { faults = now; next_file = free }) → new.now.ceiling ≤ free → StaysKept honest opening held middle new → Served honest clock old new input text before now
+served honest clock old middle new opening held input text before now first free loads answered ceiling stays =
     let stone = loads.stone in
-    let said : IsAnswered clock (opening_of stone) held input text before now first free = subst (λ (o : Opening). IsAnswered clock o held input text before now first free) loads.held_is answered in
-    let kept : StaysKept told (opening_of stone) held middle new = subst (λ (o : Opening). StaysKept told o held middle new) loads.held_is stays in
+    let said = subst (λ (o : Opening). IsAnswered clock o held input text (record { faults = before; next_file = first }) (record { faults = now; next_file = free })) loads.held_is answered in
+    let kept : StaysKept honest (opening_of stone) held middle new = subst (λ (o : Opening). StaysKept honest o held middle new) loads.held_is stays in
     record {
       stone = stone;
       loaded = loads.loaded;
@@ -153,34 +153,34 @@ served told clock old middle new opening held input text before now first free l
       free = free;
       ceiling = ceiling;
       answered = said;
-      stops = stops_open told old middle stone loads.loaded.lawful loads.bare loads.read loads.only loads.no_earlier loads.before new held said.whole.history said.whole.opened said.whole.session.legal said.stands kept;
+      stops = stops_open honest old middle stone loads.loaded.lawful loads.bare loads.read loads.only loads.no_earlier loads.before new held said.whole.history said.whole.opened said.whole.session.legal said.stands kept;
     }
 
-pub ran_on : (told : Bool) (old middle new : Directory) (opening held : Opening) (free : ℕ) → LoadsTable told old opening middle free → HasHistory opening held → StaysKept told opening held middle new → RanOn told old new
-ran_on told old middle new opening held free loads has stays =
+pub ran_on : (honest : Bool) (old middle new : Directory) (opening held : Opening) (free : ℕ) → LoadsTable honest old opening middle free → HasHistory opening held → StaysKept honest opening held middle new → RanOn honest old new
+ran_on honest old middle new opening held free loads has stays =
     let stone = loads.stone in
     let so_far : HasHistory (opening_of stone) held = subst (λ (o : Opening). HasHistory o held) loads.held_is has in
-    let kept : StaysKept told (opening_of stone) held middle new = subst (λ (o : Opening). StaysKept told o held middle new) loads.held_is stays in
+    let kept : StaysKept honest (opening_of stone) held middle new = subst (λ (o : Opening). StaysKept honest o held middle new) loads.held_is stays in
     record {
       stone = stone;
       loaded = loads.loaded;
       history = so_far.history;
       opened = so_far.opened;
       legal = so_far.legal;
-      stops = stops_open told old middle stone loads.loaded.lawful loads.bare loads.read loads.only loads.no_earlier loads.before new held so_far.history so_far.opened so_far.legal so_far.stands kept;
+      stops = stops_open honest old middle stone loads.loaded.lawful loads.bare loads.read loads.only loads.no_earlier loads.before new held so_far.history so_far.opened so_far.legal so_far.stands kept;
     }
 
-pub legal_loaded : (told : Bool) (old middle : Directory) (opening : Opening) (free : ℕ) → LoadsTable told old opening middle free → IsLegal (record { opening = opening; entries = [] })
-legal_loaded told old middle opening free loads = subst (λ (o : Opening). IsLegal (record { opening = o; entries = [] })) (sym loads.held_is) (legal_at_first loads.stone loads.loaded.lawful)
+pub legal_loaded : (honest : Bool) (old middle : Directory) (opening : Opening) (free : ℕ) → LoadsTable honest old opening middle free → IsLegal (record { opening = opening; entries = [] })
+legal_loaded honest old middle opening free loads = subst (λ (o : Opening). IsLegal (record { opening = o; entries = [] })) (sym loads.held_is) (legal_at_first loads.stone loads.loaded.lawful)
 
 -- ---- loading
 
 if_some : {X : Type 0} (o : Option X) (x : X) (P : X → Type 0) → o ≡ Some x → IfSome o P → P x
 if_some o x P e holds = subst (λ o. IfSome o P) e holds
 
-pub loads_table : (told : Bool) (old : Directory) (anchor : Anchored) (next : ℕ) (table : Opening) → IsLoaded told old anchor next → IsAnchored told anchor → IfSome (newest anchor.may) (λ stone. IsTableOf stone table)
-    → (told ≡ true → Steps Narrows old anchor.directory) → (told ≡ true → NothingNew old anchor.directory) → KeepsLent old anchor.directory → LoadsTable told old table anchor.directory next
-loads_table told old anchor next table loaded anchored of steps images lent =
+pub loads_table : (honest : Bool) (old : Directory) (anchor : Anchored) (next : ℕ) (table : Opening) → IsLoaded honest old anchor next → IsAnchored honest anchor → IfSome (newest anchor.may) (λ stone. IsTableOf stone table)
+    → (honest ≡ true → Steps Narrows old anchor.directory) → (honest ≡ true → NothingNew old anchor.directory) → KeepsLent old anchor.directory → LoadsTable honest old table anchor.directory next
+loads_table honest old anchor next table loaded anchored of steps images lent =
     let stone = loaded.stone in
     let is : IsTableOf stone table = if_some (newest anchor.may) stone (λ stone. IsTableOf stone table) (ap newest loaded.may) of in
     record {

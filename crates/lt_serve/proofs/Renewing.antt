@@ -35,18 +35,18 @@ steps_end R order old new steps =
 
 -- ---- what commands leave
 
-pub stays_none : (told : Bool) (held : Opening) (directory : Directory) → StaysKept told held held directory directory
-stays_none told held directory = record { head = refl; any_moment = λ h. Steps-none (Renews (head_of held)) (renewing (head_of held)) directory; all_tell = λ h tells. tells }
+pub stays_none : (honest : Bool) (held : Opening) (directory : Directory) → StaysKept honest held held directory directory
+stays_none honest held directory = record { head = refl; any_moment = λ h. Steps-none (Renews (head_of held)) (renewing (head_of held)) directory; all_tell = λ h tells. tells }
 
-pub stays_rest : (told : Bool) (old new : Opening) (directory : Directory) → rest_of new ≡ rest_of old → StaysKept told old new directory directory
-stays_rest told old new directory rest = record {
+pub stays_rest : (honest : Bool) (old new : Opening) (directory : Directory) → rest_of new ≡ rest_of old → StaysKept honest old new directory directory
+stays_rest honest old new directory rest = record {
   head = ap head_of rest;
   any_moment = λ h. Steps-none (Renews (head_of old)) (renewing (head_of old)) directory;
   all_tell = λ h tells. subst (λ (o : Opening). AllTell o directory.now) (sym rest) tells;
 }
 
-pub stays_join : (told : Bool) (a b c : Opening) (first second third : Directory) → StaysKept told a b first second → StaysKept told b c second third → StaysKept told a c first third
-stays_join told a b c first second third before after = record {
+pub stays_join : (honest : Bool) (a b c : Opening) (first second third : Directory) → StaysKept honest a b first second → StaysKept honest b c second third → StaysKept honest a c first third
+stays_join honest a b c first second third before after = record {
   head = after.head ∙ before.head;
   any_moment = λ h. Steps-join (Renews (head_of a)) (renewing (head_of a)) first second third (before.any_moment h)
       (subst (λ (head : Head). Steps (Renews head) second third) before.head (after.any_moment h));
@@ -64,7 +64,7 @@ extends_same versions same e = record { first = ap (λ (v : SchemaVersions). v.f
 -- ---- the table's stone under other versions is published
 
 module _ (held : Opening) (number : ℕ) (versions : SchemaVersions) (stone : StoneShape)
-    (parts : stone ≡ record { upto = held.kept; low = held.low; ttl = held.life; next_file = number + 1; schemas = versions; tablets = [] }) (lawful : IsStone stone) where
+    (parts : stone ≡ record { kept = held.kept; low = held.low; ttl = held.ttl; next_file = number + 1; schemas = versions; tablets = [] }) (lawful : IsStone stone) where
   abbrev tells : (descriptor : Option (List ℕ)) → stone_at (spelling stone) ≡ Ok stone → descriptor ≡ Some (spelling stone) → TellsOf (head_of held) descriptor
   tells descriptor read is = record {
     stone = stone;
@@ -72,9 +72,9 @@ module _ (held : Opening) (number : ℕ) (versions : SchemaVersions) (stone : St
     read = read;
     spelled = is;
     bare = ap (λ (s : StoneShape). s.tablets) parts;
-    upto = ap (λ (s : StoneShape). s.upto) parts;
+    kept = ap (λ (s : StoneShape). s.kept) parts;
     low = ap (λ (s : StoneShape). s.low) parts;
-    life = ap (λ (s : StoneShape). s.ttl) parts;
+    ttl = ap (λ (s : StoneShape). s.ttl) parts;
   }
 
   under : stone.schemas ≡ versions
@@ -106,8 +106,8 @@ module _ (held : Opening) (number : ℕ) (versions : SchemaVersions) (stone : St
   first_of_one : Contains (Some stone ∷ []) (Some stone)
   first_of_one = (0, omega arith, refl)
 
-  pub tell_published : {E : Type 0} (told : Bool) (result : Result (Unit {0}) E) (old : State) (anchor : Anchored) → IsAnchored told anchor → OnOk result (anchor.may ≡ Some stone ∷ [])
+  pub tell_published : {E : Type 0} (honest : Bool) (result : Result (Unit {0}) E) (old : State) (anchor : Anchored) → IsAnchored honest anchor → OnOk result (anchor.may ≡ Some stone ∷ [])
       → OnOk result (anchor.directory.now ≡ replaced old number (spelling stone)) → OnOk result (AllTell (record held { schemas = versions }) anchor.directory.now)
-  tell_published told (Ok done) old anchor anchored only now =
+  tell_published honest (Ok done) old anchor anchored only now =
       tell_now anchor.directory.now (ap (λ (s : State). s.may) now) (anchored.readable stone (subst (λ may. Contains may (Some stone)) (sym only) first_of_one))
-  tell_published told (Err e) old anchor anchored only now = tt
+  tell_published honest (Err e) old anchor anchored only now = tt

@@ -1,9 +1,9 @@
 -- What making an empty table leaves.
 use Rattle.std.specs.Prelude.{◌≡◌, ◌≢◌, ◌⊎◌, ◌^◌, ◌≤◌, ◌<◌, ⊤, ℕ, List, Option, None, IsSome}
 use Rattle.lt_io.specs.Directory.{Image, Directory, PossibleAt, moment}
-use Rattle.lt_schema.specs.declared.json.SchemaError.TheVariants as schema
+use Rattle.lt_json.specs.declared.json.SchemaError.TheVariants as schema
 use Rattle.lt_schema.specs.Shapes.{SchemaShape}
-use Rattle.lt_schema.specs.FromJson.{SaysSchema, IsCause as IsSchemaCause}
+use Rattle.lt_json.specs.FromJson.{SaysSchema, IsCause as IsSchemaCause}
 use Rattle.lt_commit.specs.Begun.{OpensEmpty}
 use Rattle.lt_serve.specs.declared.status.Status.{Status}
 use Rattle.lt_serve.specs.declared.status.Status.TheVariants.{Done, SinkFault, Exists, DeviceFault, NoMemory, BadSchema, Spent}
@@ -13,10 +13,10 @@ abbrev pub SaysOne : List ℕ → Type 0
 SaysOne text = (schema : SchemaShape) × SaysSchema text schema
 
 -- the image opens to the empty table of the schema that the text says, with this time to live
-pub record OpensToMade (text : List ℕ) (life : Option ℕ) (image : Image) : Type 0 where
+pub record OpensToMade (text : List ℕ) (ttl : Option ℕ) (image : Image) : Type 0 where
   pub schema : SchemaShape
   pub says : SaysSchema text schema
-  pub opens : OpensEmpty schema life image
+  pub opens : OpensEmpty schema ttl image
 
 -- how making a table may end: the text is refused for its cause, or says a schema
 abbrev pub EndsMaking : Status → List ℕ → Type 0
@@ -39,11 +39,11 @@ WasReady _ old = ⊤
 
 -- from the start on each image that a stop may leave has no descriptor, or opens to the table
 abbrev pub NoneOrMade : List ℕ → Option ℕ → Directory → Directory → Type 0
-NoneOrMade text life old new = (at : ℕ) (image : Image) → moment old ≤ at → PossibleAt new at image → (image.descriptor ≡ None) ⊎ OpensToMade text life image
+NoneOrMade text ttl old new = (at : ℕ) (image : Image) → moment old ≤ at → PossibleAt new at image → (image.descriptor ≡ None) ⊎ OpensToMade text ttl image
 
 -- now each opens to the table
 abbrev pub AllMade : List ℕ → Option ℕ → Directory → Type 0
-AllMade text life new = (image : Image) → PossibleAt new (moment new) image → OpensToMade text life image
+AllMade text ttl new = (image : Image) → PossibleAt new (moment new) image → OpensToMade text ttl image
 
 -- what holds once a table is made
 abbrev pub MakesOne : Status → Type 0 → Type 0

@@ -2,25 +2,25 @@
 use Rattle.std.specs.Prelude.{◌≡◌, ◌+◌, ◌-◌, ◌^◌, ◌≤◌, min, ℕ, Bool, true, false, IsTrue, List, [], ◌∷◌, ◌++◌, sum_by, All, Option, Some, None}
 use Rattle.std.specs.List.{flat_map}
 use Rattle.lt_reply.specs.Texts.{reply_text_of, client_line}
-use Rattle.lt_lang.specs.declared.command.Command.{Command}
-use Rattle.lt_lang.specs.declared.command.Command.TheVariants.{Alter}
-use Rattle.lt_lang.specs.declared.command.Line.{Line}
-use Rattle.lt_lang.specs.declared.command.Line.TheVariants.{Skip, Bad, Command as CommandLine}
-use Rattle.lt_reply.specs.declared.reply.Reply.{Reply}
-use Rattle.lt_reply.specs.declared.reply.Reply.TheVariants.{BadLine, Refused, Fault, Spent}
+use Rattle.lt_command.specs.declared.command.Command.{Command}
+use Rattle.lt_command.specs.declared.command.Command.TheVariants.{Alter}
+use Rattle.lt_command.specs.declared.command.Line.{Line}
+use Rattle.lt_command.specs.declared.command.Line.TheVariants.{Skip, Bad, Command as CommandLine}
+use Rattle.lt_command.specs.declared.reply.Reply.{Reply}
+use Rattle.lt_command.specs.declared.reply.Reply.TheVariants.{BadLine, Refused, Fault, Spent}
 use Rattle.lt_model.specs.History.{Opening, History}
 use Rattle.lt_model.specs.Legal.{IsLegal}
 use Rattle.lt_model.specs.Session.{Block, IsMoment}
 use Rattle.lt_model.specs.Growing.{SoFar}
 use Rattle.lt_plain.specs.Table.{StandsFor, Answers, IsUndamaged}
-use Rattle.lt_serve.specs.Session.{lines_of, is_built, IsText}
+use Rattle.lt_serve.specs.Session.{lines_of, is_built, IsSessionText}
 
 -- the lines that belong to anybody
-abbrev pub told : List Line → List Line
-told [] = []
-told (Skip ∷ lines) = told lines
-told (Bad client at ∷ lines) = Bad client at ∷ told lines
-told (CommandLine client moment command ∷ lines) = CommandLine client moment command ∷ told lines
+abbrev pub owned : List Line → List Line
+owned [] = []
+owned (Skip ∷ lines) = owned lines
+owned (Bad client at ∷ lines) = Bad client at ∷ owned lines
+owned (CommandLine client moment command ∷ lines) = CommandLine client moment command ∷ owned lines
 
 -- a line whose command, if it has one, is built
 abbrev pub asks_built : Line → Bool
@@ -92,31 +92,36 @@ Replies clock old new (Bad client at) (Some reply) = (reply ≡ BadLine at) × (
 Replies clock old new (CommandLine client moment command) (Some reply) = (now : ℕ) × IsMoment clock moment now × Answers old new now command reply
 Replies clock old new line reply = ⊥
 
+-- the count of the device's faults, and the first free file number
+pub record Meter : Type 0 where
+  pub faults : ℕ
+  pub next_file : ℕ
+
 -- These lines are answered: the table holds what their history says, which began with the opening; the text so far is their
 -- client's block; there are at most as many faults among the replies as the count rose since, none tells of damage, and
 -- changes used the file numbers from the first on up to the free ones.
-pub record HasAnswered (clock : ℕ → Type 0) (opening held : Opening) (client : Option (List ℕ)) (text : List ℕ) (lines : List Line) (before now first free : ℕ) : Type 0 where
+pub record HasAnswered (clock : ℕ → Type 0) (opening held : Opening) (client : Option (List ℕ)) (text : List ℕ) (lines : List Line) (before now : Meter) : Type 0 where
   pub replies : List Reply
   pub history : History
   pub opened : history.opening ≡ opening
   pub stands : StandsFor held history
-  pub so_far : SoFar clock 0 (told lines) replies history
+  pub so_far : SoFar clock 0 (owned lines) replies history
   pub written : text ≡ block_head client ++ flat_map reply_text_of replies
-  pub faults : AtMostRose before (faults_in replies) now
+  pub faults : AtMostRose before.faults (faults_in replies) now.faults
   pub undamaged : All IsUndamaged replies
-  pub numbers : UsesNumbers first (told lines) replies free
+  pub numbers : UsesNumbers before.next_file (owned lines) replies now.next_file
 
 -- one line more is answered, behind all that were answered before
-abbrev pub Takes : (ℕ → Type 0) → Opening → Opening → List ℕ → List ℕ → ℕ → ℕ → ℕ → ℕ → Line → Type 0
-Takes clock old new text longer before now free left line =
-    (opening : Opening) (client : Option (List ℕ)) (lines : List Line) (began first : ℕ)
-    → HasAnswered clock opening old client text lines began before first free → HasAnswered clock opening new client longer (lines ++ line ∷ []) began now first left
+abbrev pub Takes : (ℕ → Type 0) → Opening → Opening → List ℕ → List ℕ → Meter → Meter → Line → Type 0
+Takes clock old new text longer before now line =
+    (opening : Opening) (client : Option (List ℕ)) (lines : List Line) (began : Meter)
+    → HasAnswered clock opening old client text lines began before → HasAnswered clock opening new client longer (lines ++ line ∷ []) began now
 
 -- the front of the input that was read is answered so far
-pub record ReadSoFar (clock : ℕ → Type 0) (opening held : Opening) (client : Option (List ℕ)) (input rest text : List ℕ) (before now first free : ℕ) : Type 0 where
+pub record ReadSoFar (clock : ℕ → Type 0) (opening held : Opening) (client : Option (List ℕ)) (input rest text : List ℕ) (before now : Meter) : Type 0 where
   pub lines : List Line
   pub cut : lines_of input ≡ lines ++ lines_of rest
-  pub answered : HasAnswered clock opening held client text lines before now first free
+  pub answered : HasAnswered clock opening held client text lines before now
 
 -- the table holds what a legal history says that began with the opening
 pub record HasHistory (opening held : Opening) : Type 0 where
@@ -128,9 +133,9 @@ pub record HasHistory (opening held : Opening) : Type 0 where
 -- All lines are answered by the text, and the table holds what their history says. There are at most as many faults among
 -- the replies as the count rose, none tells of damage, and changes used the file numbers from the first on up to the free
 -- ones.
-pub record IsAnswered (clock : ℕ → Type 0) (opening held : Opening) (input text : List ℕ) (before now first free : ℕ) : Type 0 where
-  pub whole : IsText clock opening input text
+pub record IsAnswered (clock : ℕ → Type 0) (opening held : Opening) (input text : List ℕ) (before now : Meter) : Type 0 where
+  pub whole : IsSessionText clock opening input text
   pub stands : StandsFor held whole.history
-  pub faults : AtMostRose before (faults_in (replies_of whole.blocks)) now
+  pub faults : AtMostRose before.faults (faults_in (replies_of whole.blocks)) now.faults
   pub undamaged : All IsUndamaged (replies_of whole.blocks)
-  pub numbers : UsesNumbers first (told (lines_of input)) (replies_of whole.blocks) free
+  pub numbers : UsesNumbers before.next_file (owned (lines_of input)) (replies_of whole.blocks) now.next_file

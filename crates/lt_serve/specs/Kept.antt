@@ -4,8 +4,8 @@ use Rattle.lt_io.specs.Directory.{State, Directory}
 use Rattle.lt_io.specs.Steps.{Steps}
 use Rattle.lt_schema.specs.declared.change.Change.{Change}
 use Rattle.lt_schema.specs.Versions.{SchemaVersions}
-use Rattle.lt_reply.specs.declared.reply.Reply.{Reply}
-use Rattle.lt_reply.specs.declared.reply.Reply.TheVariants as reply
+use Rattle.lt_command.specs.declared.reply.Reply.{Reply}
+use Rattle.lt_command.specs.declared.reply.Reply.TheVariants as reply
 use Rattle.lt_commit.specs.declared.errors.CommitError.{CommitError}
 use Rattle.lt_commit.specs.declared.errors.CommitError.TheVariants as commit
 use Rattle.lt_desc.specs.Shape.{StoneShape}
@@ -21,18 +21,18 @@ commit_reply commit.Fault = reply.Fault
 commit_reply commit.NoMemory = reply.NoMemory
 
 -- a time to live that a descriptor can tell
-abbrev pub is_life : Option ℕ → Bool
-is_life None = true
-is_life (Some life) = nat_le 1 life && nat_lt life (2 ^ 62)
+abbrev pub is_ttl : Option ℕ → Bool
+is_ttl None = true
+is_ttl (Some ttl) = nat_le 1 ttl && nat_lt ttl (2 ^ 62)
 
 -- what a change of the schema leaves of a table: the number below which all is durable, the low bound, the time to live
 pub record Head : Type 0 where
-  pub upto : ℕ
+  pub kept : ℕ
   pub low : ℕ
-  pub life : Option ℕ
+  pub ttl : Option ℕ
 
 abbrev pub head_of : Opening → Head
-head_of held = record { upto = held.kept; low = held.low; life = held.life }
+head_of held = record { kept = held.kept; low = held.low; ttl = held.ttl }
 
 -- the descriptor of a table with this head, without rows in files
 pub record TellsOf (head : Head) (descriptor : Option (List ℕ)) : Type 0 where
@@ -41,9 +41,9 @@ pub record TellsOf (head : Head) (descriptor : Option (List ℕ)) : Type 0 where
   pub read : stone_at (spelling stone) ≡ Ok stone
   pub spelled : descriptor ≡ Some (spelling stone)
   pub bare : stone.tablets ≡ []
-  pub upto : stone.upto ≡ head.upto
+  pub kept : stone.kept ≡ head.kept
   pub low : stone.low ≡ head.low
-  pub life : stone.ttl ≡ head.life
+  pub ttl : stone.ttl ≡ head.ttl
 
 -- these versions, and perhaps more
 pub record Extends (versions more : SchemaVersions) : Type 0 where
@@ -67,7 +67,7 @@ pub record Renews (head : Head) (before after : State) : Type 0 where
 
 -- What commands leave of a table and of the directory that it is kept in: a descriptor that a stop may leave was possible
 -- before or is one of the table, at each moment, and no change that the table took is lost.
-pub record StaysKept (told : Bool) (old new : Opening) (before after : Directory) : Type 0 where
+pub record StaysKept (honest : Bool) (old new : Opening) (before after : Directory) : Type 0 where
   pub head : head_of new ≡ head_of old
-  pub any_moment : told ≡ true → Steps (Renews (head_of old)) before after
-  pub all_tell : told ≡ true → AllTell old before.now → AllTell new after.now
+  pub any_moment : honest ≡ true → Steps (Renews (head_of old)) before after
+  pub all_tell : honest ≡ true → AllTell old before.now → AllTell new after.now

@@ -23,16 +23,16 @@ RefusesTable stone _ = ⊥
 
 -- The stone of the directory's descriptor lists no tablet and was made the only possible one; this is its table, and this
 -- the first free file number.
-pub record LoadsTable (told : Bool) (old : Directory) (held : Opening) (directory : Directory) (free : ℕ) : Type 0 where
+pub record LoadsTable (honest : Bool) (old : Directory) (held : Opening) (directory : Directory) (free : ℕ) : Type 0 where
   pub stone : StoneShape
-  pub loaded : IsLoadedFrom told old stone
+  pub loaded : IsLoadedFrom honest old stone
   pub bare : stone.tablets ≡ []
   pub held_is : held ≡ opening_of stone
   pub read : stone_at (spelling stone) ≡ Ok stone
-  pub only : told ≡ true → directory.now.may ≡ Some (spelling stone) ∷ []
-  pub no_earlier : told ≡ true → moment old ≤ moment directory
-  pub before : told ≡ true → NothingNew old directory
-  pub free_is : told ≡ true → free ≡ first_free old stone
+  pub only : honest ≡ true → directory.now.may ≡ Some (spelling stone) ∷ []
+  pub no_earlier : honest ≡ true → moment old ≤ moment directory
+  pub before : honest ≡ true → NothingNew old directory
+  pub free_is : honest ≡ true → free ≡ first_free old stone
 
 -- why the lines were not answered
 abbrev pub IsInterrupted : Status → List ℕ → Directory → Directory → Type 0

@@ -1,6 +1,6 @@
 -- What a look through the lines of an input finds.
 use Rattle.std.specs.Prelude.{◌≡◌, ◌+◌, ◌≤◌, ℕ, List, ◌++◌, length, Option}
-use Rattle.lt_lang.specs.declared.command.Line.{Line}
+use Rattle.lt_command.specs.declared.command.Line.{Line}
 use Rattle.lt_serve.specs.Session.{lines_of, client_of, AllMayAnswer, IsBuilt, HasOtherLine}
 use Rattle.lt_serve.specs.declared.looking.Outlook.{Outlook}
 use Rattle.lt_serve.specs.declared.looking.Outlook.TheVariants.{Clear, Other}

@@ -22,28 +22,28 @@ pub record IsSessionInput (input : List ℕ) : Type 0 where
 
 -- The line can't be answered yet: the loaded stone lists a tablet, which stops the first line; or it lists none, and this line
 -- is the first that is another client's or asks for what isn't built.
-pub record IsNotYet (told : Bool) (directory : Directory) (input : List ℕ) (line : ℕ) : Type 0 where
+pub record IsNotYet (honest : Bool) (directory : Directory) (input : List ℕ) (line : ℕ) : Type 0 where
   pub stone : StoneShape
-  pub loaded : IsLoadedFrom told directory stone
+  pub loaded : IsLoadedFrom honest directory stone
   pub why : ((stone.tablets ≡ [] → ⊥) × (line ≡ 0)) ⊎ ((stone.tablets ≡ []) × HasOtherLine input line)
 
 -- why a session was refused once its input was read, by status
 abbrev pub IsCause : Status → Bool → Directory → List ℕ → Type 0
-IsCause NoTable told directory input = told ≡ true → directory.seen.descriptor ≡ None
-IsCause (Refused at) told directory input = told ≡ true → option_map stone_at directory.seen.descriptor ≡ Some (Err at)
-IsCause (NotYet line) told directory input = IsNotYet told directory input line
-IsCause DeviceFault told directory input = ⊤
-IsCause NoMemory told directory input = ⊤
-IsCause _ told directory input = ⊥
+IsCause NoTable honest directory input = honest ≡ true → directory.seen.descriptor ≡ None
+IsCause (Refused at) honest directory input = honest ≡ true → option_map stone_at directory.seen.descriptor ≡ Some (Err at)
+IsCause (NotYet line) honest directory input = IsNotYet honest directory input line
+IsCause DeviceFault honest directory input = ⊤
+IsCause NoMemory honest directory input = ⊤
+IsCause _ honest directory input = ⊥
 
--- which input may end so, where it is told
+-- which input may end so
 abbrev pub MayEnd : Status → Bool → Directory → List ℕ → Type 0
-MayEnd Done told directory input = IsSessionInput input
-MayEnd SinkFault told directory input = IsSessionInput input
-MayEnd TooLong told directory input = INPUT_LIMIT < length input
-MayEnd SourceFault told directory input = ⊤
-MayEnd NoMemory told directory input = ⊤
-MayEnd status told directory input = (length input ≤ INPUT_LIMIT) × IsCause status told directory input
+MayEnd Done honest directory input = IsSessionInput input
+MayEnd SinkFault honest directory input = IsSessionInput input
+MayEnd TooLong honest directory input = INPUT_LIMIT < length input
+MayEnd SourceFault honest directory input = ⊤
+MayEnd NoMemory honest directory input = ⊤
+MayEnd status honest directory input = (length input ≤ INPUT_LIMIT) × IsCause status honest directory input
 
 -- what ends only after the source was read to its end
 abbrev pub ReadsFirst : Status → Option (List ℕ) → Type 0

@@ -5,10 +5,10 @@ use Rattle.lt_lang.specs.Lines.{cut_lines}
 use Rattle.lt_lang.specs.Sentences.{IsSpelled}
 use Rattle.lt_lang.specs.Parsing.{line_at}
 use Rattle.lt_reply.specs.Texts.{block_text, end_line}
-use Rattle.lt_lang.specs.declared.command.Command.{Command}
-use Rattle.lt_lang.specs.declared.command.Command.TheVariants.{Insert, Scan, Latest, Flush, Upkeep, Alter, Tablets}
-use Rattle.lt_lang.specs.declared.command.Line.{Line}
-use Rattle.lt_lang.specs.declared.command.Line.TheVariants.{Skip, Bad, Command as CommandLine}
+use Rattle.lt_command.specs.declared.command.Command.{Command}
+use Rattle.lt_command.specs.declared.command.Command.TheVariants.{Insert, Scan, Latest, Flush, Upkeep, Alter, Tablets}
+use Rattle.lt_command.specs.declared.command.Line.{Line}
+use Rattle.lt_command.specs.declared.command.Line.TheVariants.{Skip, Bad, Command as CommandLine}
 use Rattle.lt_model.specs.History.{Opening, History}
 use Rattle.lt_model.specs.Readings.{next, kept}
 use Rattle.lt_model.specs.Session.{Block, IsSession, name_of, clients_of}
@@ -67,8 +67,8 @@ blocks_text blocks = flat_map (λ (block : Block). block_text block.name block.r
 
 -- The text of a session over the input, of a table that was opened so: its lines are spelled as the grammar says, and there
 -- is one history, which began with that opening, and at whose fronts each line of each client is answered; the text is the
--- clients' blocks, and the next and the settled number at its end.
-pub record IsText (clock : ℕ → Type 0) (opening : Opening) (input text : List ℕ) : Type 0 where
+-- clients' blocks, and the next and the kept number at its end.
+pub record IsSessionText (clock : ℕ → Type 0) (opening : Opening) (input text : List ℕ) : Type 0 where
   pub spelled : AreSpelled (cut_lines input)
   pub blocks : List Block
   pub history : History

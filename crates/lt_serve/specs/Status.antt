@@ -1,8 +1,8 @@
 -- The numbers of the statuses, and the line that each refusal writes.
 use Rattle.std.specs.Prelude.{⊤, ℕ, List, [], ◌++◌, codes, decimal}
 use Rattle.lt_reply.specs.Texts.{line_of}
-use Rattle.lt_schema.specs.declared.json.SchemaError.{SchemaError}
-use Rattle.lt_schema.specs.declared.json.SchemaError.TheVariants as schema
+use Rattle.lt_json.specs.declared.json.SchemaError.{SchemaError}
+use Rattle.lt_json.specs.declared.json.SchemaError.TheVariants as schema
 use Rattle.lt_commit.specs.declared.errors.LoadError.{LoadError}
 use Rattle.lt_commit.specs.declared.errors.LoadError.TheVariants as load
 use Rattle.lt_commit.specs.declared.errors.CreateError.{CreateError}

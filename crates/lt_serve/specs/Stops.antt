@@ -19,7 +19,7 @@ pub record OpensAfter (h : History) (image : Image) : Type 0 where
   pub found : Opening
   pub opens : OpensTo image stone found
   pub crash : IsCrash h (durable_by stone) found
-  pub upto : stone.upto ≡ h.opening.kept
+  pub kept : stone.kept ≡ h.opening.kept
 
 -- and no change of the schema is lost
 pub record OpensToAll (h : History) (image : Image) : Type 0 where
@@ -38,30 +38,30 @@ pub record StopsOpen (h : History) (old new : Directory) : Type 0 where
 
 -- A session that was answered: the text and the stops are of one history, which began with what the loaded stone tells;
 -- file numbers were free from the first on, and the ceiling is at most the first that is free now.
-pub record Served (told : Bool) (clock : ℕ → Type 0) (old new : Directory) (input text : List ℕ) (before now : ℕ) : Type 0 where
+pub record Served (honest : Bool) (clock : ℕ → Type 0) (old new : Directory) (input text : List ℕ) (before now : ℕ) : Type 0 where
   pub stone : StoneShape
-  pub loaded : IsLoadedFrom told old stone
+  pub loaded : IsLoadedFrom honest old stone
   pub bare : stone.tablets ≡ []
   pub held : Opening
   pub first : ℕ
-  pub first_is : told ≡ true → first ≡ first_free old stone
+  pub first_is : honest ≡ true → first ≡ first_free old stone
   pub free : ℕ
   pub ceiling : new.now.ceiling ≤ free
-  pub answered : IsAnswered clock (opening_of stone) held input text before now first free
-  pub stops : told ≡ true → StopsOpen answered.whole.history old new
+  pub answered : IsAnswered clock (opening_of stone) held input text (record { faults = before; next_file = first }) (record { faults = now; next_file = free })
+  pub stops : honest ≡ true → StopsOpen answered.whole.history old new
 
 -- a session that loaded a table and got so far
-pub record RanOn (told : Bool) (old new : Directory) : Type 0 where
+pub record RanOn (honest : Bool) (old new : Directory) : Type 0 where
   pub stone : StoneShape
-  pub loaded : IsLoadedFrom told old stone
+  pub loaded : IsLoadedFrom honest old stone
   pub history : History
   pub opened : history.opening ≡ opening_of stone
   pub legal : IsLegal history
-  pub stops : told ≡ true → StopsOpen history old new
+  pub stops : honest ≡ true → StopsOpen history old new
 
 -- what a run leaves, by its status: nothing that wasn't possible before, unless lines were carried out
 abbrev pub Leaves : Status → Bool → Directory → Directory → Type 0
-Leaves Done told old new = RanOn told old new
-Leaves SinkFault told old new = RanOn told old new
-Leaves NoMemory told old new = (told ≡ true → NothingNew old new) ⊎ RanOn told old new
-Leaves _ told old new = told ≡ true → NothingNew old new
+Leaves Done honest old new = RanOn honest old new
+Leaves SinkFault honest old new = RanOn honest old new
+Leaves NoMemory honest old new = (honest ≡ true → NothingNew old new) ⊎ RanOn honest old new
+Leaves _ honest old new = honest ≡ true → NothingNew old new

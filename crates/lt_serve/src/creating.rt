@@ -2,7 +2,7 @@
 ghost use Rattle.std.specs.Prelude.{◌≡◌, ◌≢◌, ◌⊎◌, ◌≤◌, ◌<◌, ◌^◌, ◌∷◌, [], true, None, IfOk, OnOk, IfErr, IfSome, IsErrOf, codes};
 ghost use Rattle.lt_io.specs.Device.{Counts};
 ghost use Rattle.lt_reply.specs.Texts.{line_of};
-ghost use Rattle.lt_schema.specs.FromJson.{SaysSchema};
+ghost use Rattle.lt_json.specs.FromJson.{SaysSchema};
 ghost use Rattle.lt_commit.specs.Begun.{NoneOrEmpty, AllEmpty};
 ghost use Rattle.lt_serve.specs.Created.{IsTextRefusal, IsMakingRefusal, EndsMaking, WasReady, IsMade, NoneOrMade, AllMade, MakesOne};
 ghost use Rattle.lt_serve.specs.Output.{IsRefusal, WritesRefusal, WritesText, WritesWhole};
@@ -13,14 +13,15 @@ use crate::output::write_text;
 use crate::refusing::refuse;
 use lt_commit::Anchor;
 use lt_io::{Device, Sink};
-use lt_schema::{Schema, SchemaError};
+use lt_json::{SchemaError, schema_from_json};
+use lt_schema::Schema;
 use std::alloc::Global;
 
 fn schema_of(alloc: Global, text: &str) -> Result<Schema, Status>
     ensures says { IfOk result (SaysSchema text.now) }
     ensures refused { IfErr result (IsTextRefusal text.now) }
 {
-    match Schema::from_json(alloc, text.as_bytes()) {
+    match schema_from_json(alloc, text.as_bytes()) {
         Ok(schema) => Ok(schema),
         Err(SchemaError::NoMemory) => Err(Status::NoMemory),
         Err(why) => Err(Status::BadSchema { why }),
@@ -32,17 +33,17 @@ fn make<V: Device>(
     device: &mut V,
     dir: V::Dir,
     schema: Schema,
-    life: Option<u64>,
+    ttl: Option<u64>,
 ) -> (Result<(), Status>, V::Dir)
-    requires { IfSome life (λ t. (1 ≤ t) × (t < 2 ^ 62)) }
+    requires { IfSome ttl (λ t. (1 ≤ t) × (t < 2 ^ 62)) }
     ensures ready { V.honest ≡ true → OnOk result.0 (WasReady Status.Done (V.directory dir)) }
     ensures refused { IfErr result.0 IsMakingRefusal }
     ensures unready { V.honest ≡ true → IfErr result.0 (λ status. WasReady status (V.directory dir)) }
-    ensures images { V.honest ≡ true → (V.directory dir).now.may ≡ None ∷ [] → NoneOrEmpty schema life (V.directory dir) (V.directory result.1) }
-    ensures acknowledged { V.honest ≡ true → OnOk result.0 (AllEmpty schema life (V.directory result.1)) }
+    ensures images { V.honest ≡ true → (V.directory dir).now.may ≡ None ∷ [] → NoneOrEmpty schema ttl (V.directory dir) (V.directory result.1) }
+    ensures acknowledged { V.honest ≡ true → OnOk result.0 (AllEmpty schema ttl (V.directory result.1)) }
     ensures cause { Counts (V.faults device.old) (V.faults device.new) (IsErrOf result.0 Status.DeviceFault) }
 {
-    match Anchor::create(alloc, device, dir, schema, life) {
+    match Anchor::create(alloc, device, dir, schema, ttl) {
         Ok(anchor) => (Ok(()), anchor.into_dir()),
         Err((dir, refused)) => (Err(Status::from(refused)), dir),
     }
@@ -66,21 +67,21 @@ fn make_and_tell<K: Sink, V: Device>(
     alloc: Global,
     sink: &mut K,
     schema: Schema,
-    life: Option<u64>,
+    ttl: Option<u64>,
     dir: V::Dir,
     device: &mut V,
 ) -> (Status, V::Dir)
-    requires { IfSome life (λ t. (1 ≤ t) × (t < 2 ^ 62)) }
+    requires { IfSome ttl (λ t. (1 ≤ t) × (t < 2 ^ 62)) }
     ensures sink_count { K.faults sink.old ≤ K.faults sink.new }
     ensures device { Counts (V.faults device.old) (V.faults device.new) (result.0 ≡ Status.DeviceFault) }
     ensures ends { IsMade result.0 }
     ensures ready { V.honest ≡ true → WasReady result.0 (V.directory dir) }
     ensures text { WritesText (λ text. text ≡ line_of (codes "created")) result.0 (K.held sink.old) (K.held sink.new) }
     ensures refusal { WritesRefusal result.0 (K.held sink.old) (K.held sink.new) (K.faults sink.old) (K.faults sink.new) }
-    ensures images { V.honest ≡ true → (V.directory dir).now.may ≡ None ∷ [] → NoneOrEmpty schema life (V.directory dir) (V.directory result.1) }
-    ensures acknowledged { V.honest ≡ true → MakesOne result.0 (AllEmpty schema life (V.directory result.1)) }
+    ensures images { V.honest ≡ true → (V.directory dir).now.may ≡ None ∷ [] → NoneOrEmpty schema ttl (V.directory dir) (V.directory result.1) }
+    ensures acknowledged { V.honest ≡ true → MakesOne result.0 (AllEmpty schema ttl (V.directory result.1)) }
 {
-    let (made, dir) = make(alloc, device, dir, schema, life);
+    let (made, dir) = make(alloc, device, dir, schema, ttl);
     (tell(alloc, sink, made), dir)
 }
 
@@ -89,11 +90,11 @@ pub fn create<K: Sink, V: Device>(
     alloc: Global,
     sink: &mut K,
     text: &str,
-    life: Option<u64>,
+    ttl: Option<u64>,
     dir: V::Dir,
     device: &mut V,
 ) -> (Status, V::Dir)
-    requires { IfSome life (λ t. (1 ≤ t) × (t < 2 ^ 62)) }
+    requires { IfSome ttl (λ t. (1 ≤ t) × (t < 2 ^ 62)) }
     ensures sink_count { K.faults sink.old ≤ K.faults sink.new }
     ensures device { Counts (V.faults device.old) (V.faults device.new) (result.0 ≡ Status.DeviceFault) }
     ensures untouched { StandsBefore result.0 → (result.1 ≡ dir) × (device.new ≡ device.old) }
@@ -101,11 +102,11 @@ pub fn create<K: Sink, V: Device>(
     ensures ready { V.honest ≡ true → WasReady result.0 (V.directory dir) }
     ensures text { WritesText (λ text. text ≡ line_of (codes "created")) result.0 (K.held sink.old) (K.held sink.new) }
     ensures refusal { WritesRefusal result.0 (K.held sink.old) (K.held sink.new) (K.faults sink.old) (K.faults sink.new) }
-    ensures images { V.honest ≡ true → (V.directory dir).now.may ≡ None ∷ [] → NoneOrMade text.now life (V.directory dir) (V.directory result.1) }
-    ensures acknowledged { V.honest ≡ true → MakesOne result.0 (AllMade text.now life (V.directory result.1)) }
+    ensures images { V.honest ≡ true → (V.directory dir).now.may ≡ None ∷ [] → NoneOrMade text.now ttl (V.directory dir) (V.directory result.1) }
+    ensures acknowledged { V.honest ≡ true → MakesOne result.0 (AllMade text.now ttl (V.directory result.1)) }
 {
     match schema_of(alloc, text) {
-        Ok(schema) => make_and_tell(alloc, sink, schema, life, dir, device),
+        Ok(schema) => make_and_tell(alloc, sink, schema, ttl, dir, device),
         Err(refused) => (refuse(alloc, sink, refused), dir),
     }
 }

@@ -14,3 +14,4 @@ mod words;
 
 pub use status::Status;
 pub use top::run;
+pub use words::{Creation, creation_of, is_run};

@@ -1,11 +1,12 @@
 //! A look through all lines of an input, before any of them is carried out.
 ghost use Rattle.std.specs.Prelude.{◌≡◌, ◌↔◌, IsTrue, IfOk, Some};
 ghost use Rattle.lt_serve.specs.Session.{is_built, first_name, MayAnswer};
-ghost use Rattle.lt_lang.specs.declared.command.Line.{Line as SomeLine};
+ghost use Rattle.lt_command.specs.declared.command.Line.{Line as SomeLine};
 ghost use Rattle.lt_model.specs.Session.{name_of};
 ghost use Rattle.lt_serve.specs.Looking.{IsOutlook};
 
-use lt_lang::{Command, Line, next_line, read_line};
+use lt_command::{Command, Line};
+use lt_lang::{next_line, read_line};
 use lt_rec::{Label, NoMemory};
 use std::alloc::Global;
 

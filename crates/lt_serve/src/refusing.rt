@@ -7,8 +7,8 @@ ghost use Rattle.lt_serve.specs.Output.{WritesAlone, WritesRefusal, IsRefusal};
 use crate::Status;
 use itoa::Buffer;
 use lt_io::{Sink, write_all};
+use lt_json::SchemaError;
 use lt_rec::NoMemory;
-use lt_schema::SchemaError;
 use std::alloc::Global;
 
 const USAGE: &str =

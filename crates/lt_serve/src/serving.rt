@@ -33,13 +33,13 @@ fn table_of(alloc: Global, stone: &Stone) -> Result<ListTable, Status>
         return Err(Status::NotYet { line: 0 });
     }
     let schemas = stone.schemas().clone()?;
-    let upto = stone.upto();
+    let kept = stone.kept();
     Ok(ListTable::open(
         schemas,
         stone.ttl(),
         stone.low(),
-        upto,
-        upto,
+        kept,
+        kept,
         Vec::new(alloc),
     ))
 }
@@ -83,7 +83,7 @@ fn answered<V: Device, C: Clock>(
 ) -> Result<Vec<u8>, Status>
     requires opens { IsLegal (record { opening = store.old.table; entries = [] }) }
     ensures built { OnOk result (IsBuilt input.now) }
-    ensures answered { IfOk result (λ text. IsAnswered (C.shows clock.now) store.old.table store.new.table input.now text.items (V.faults device.old) (V.faults device.new) store.old.next_file store.new.next_file) }
+    ensures answered { IfOk result (λ text. IsAnswered (C.shows clock.now) store.old.table store.new.table input.now text.items (record { faults = V.faults device.old; next_file = store.old.next_file }) (record { faults = V.faults device.new; next_file = store.new.next_file })) }
     ensures refused { IfErr result (λ status. IsInterrupted status input.now store.old.anchor.directory store.new.anchor.directory) }
     ensures history { HasHistory store.old.table store.new.table }
     ensures kept { StaysKept V.honest store.old.table store.new.table store.old.anchor.directory store.new.anchor.directory }

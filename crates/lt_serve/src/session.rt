@@ -10,10 +10,11 @@ ghost use Rattle.lt_serve.specs.Kept.{StaysKept};
 ghost use Rattle.lt_serve.specs.Growing.{asks_built, block_head, numbers_used, IsSpentFrom, Replies, Takes, HasHistory, IsAnswered};
 
 use crate::store::Store;
+use lt_command::{Line, Reply};
 use lt_io::{Clock, Device};
-use lt_lang::{Line, next_line, read_line};
+use lt_lang::{next_line, read_line};
 use lt_rec::{Label, NoMemory};
-use lt_reply::{Reply, put_client, put_end, put_reply};
+use lt_reply::{put_client, put_end, put_reply};
 use std::alloc::Global;
 
 /// The line's own moment, else what the clock shows.
@@ -66,7 +67,7 @@ fn answer_line<V: Device, C: Clock>(
     line: Line,
 ) -> Result<(), NoMemory>
     requires built { IsTrue (asks_built line) }
-    ensures takes { OnOk result (Takes (C.shows clock.now) store.old.table store.new.table text.old.items text.new.items (V.faults device.old) (V.faults device.new) store.old.next_file store.new.next_file line) }
+    ensures takes { OnOk result (Takes (C.shows clock.now) store.old.table store.new.table text.old.items text.new.items (record { faults = V.faults device.old; next_file = store.old.next_file }) (record { faults = V.faults device.new; next_file = store.new.next_file }) line) }
     ensures history { (opening : Opening) → HasHistory opening store.old.table → HasHistory opening store.new.table }
     ensures kept { StaysKept V.honest store.old.table store.new.table store.old.anchor.directory store.new.anchor.directory }
     ensures later { V.faults device.old ≤ V.faults device.new }
@@ -100,7 +101,7 @@ pub fn session_over<V: Device, C: Clock>(
     requires opens { IsLegal (record { opening = store.old.table; entries = [] }) }
     requires built { IsBuilt input.now }
     requires client { client ≡ client_of (lines_of input.now) }
-    ensures answered { IfOk result (λ text. IsAnswered (C.shows clock.now) store.old.table store.new.table input.now text.items (V.faults device.old) (V.faults device.new) store.old.next_file store.new.next_file) }
+    ensures answered { IfOk result (λ text. IsAnswered (C.shows clock.now) store.old.table store.new.table input.now text.items (record { faults = V.faults device.old; next_file = store.old.next_file }) (record { faults = V.faults device.new; next_file = store.new.next_file })) }
     ensures history { HasHistory store.old.table store.new.table }
     ensures kept { StaysKept V.honest store.old.table store.new.table store.old.anchor.directory store.new.anchor.directory }
     ensures later { V.faults device.old ≤ V.faults device.new }

@@ -3,8 +3,8 @@ ghost use Rattle.lt_serve.specs.Status.{load_refusal, create_refusal};
 ghost use Rattle.lt_serve.specs.declared.status.Status.TheVariants.{NoMemory as WantOfMemory};
 
 use lt_commit::{CreateError, LoadError};
+use lt_json::SchemaError;
 use lt_rec::NoMemory;
-use lt_schema::SchemaError;
 use std::alloc::AllocError;
 
 /// How a run ended.

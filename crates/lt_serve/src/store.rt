@@ -1,15 +1,14 @@
 //! A table, and the directory whose descriptor tells of it.
 ghost use Rattle.std.specs.Prelude.{◌≡◌, ◌≢◌, ◌≤◌, ◌<◌, ◌^◌, IsTrue, IfOk, IfErr, OnErr, IsErrOf};
 ghost use Rattle.lt_plain.specs.Table.{IsUndamaged};
-ghost use Rattle.lt_serve.specs.Kept.{commit_reply, is_life};
+ghost use Rattle.lt_serve.specs.Kept.{commit_reply, is_ttl};
 
+use lt_command::{Command, Reply};
 use lt_commit::{Anchor, CommitError};
 use lt_desc::{Stone, Tablets};
 use lt_io::Device;
-use lt_lang::Command;
 use lt_plain::ListTable;
 use lt_rec::NoMemory;
-use lt_reply::Reply;
 use lt_schema::{Change, Schemas};
 use std::alloc::Global;
 
@@ -20,15 +19,15 @@ pub struct Store<V: Device> {
     anchor: Anchor<V>,
     // Files from this number on are free.
     next_file: u64,
-    ghost upto: { table.kept ≤ 2 ^ 62 },
+    ghost kept: { table.kept ≤ 2 ^ 62 },
     ghost low: { table.low < 2 ^ 62 },
-    ghost life: { IsTrue (is_life table.life) },
+    ghost ttl: { IsTrue (is_ttl table.ttl) },
     ghost free: { anchor.directory.now.ceiling ≤ next_file },
     ghost in_range: { next_file ≤ 2 ^ 62 },
 }
 
-/// The reply, which tells it where memory was wanted.
-fn told(answered: Result<Reply, NoMemory>) -> Reply
+/// The reply, or that memory was wanted.
+fn reply_or_no_memory(answered: Result<Reply, NoMemory>) -> Reply
     ensures reply { IfOk answered (λ reply. result ≡ reply) }
     ensures no_memory { OnErr answered (result ≡ Reply.NoMemory) }
     ensures undamaged { IfOk answered IsUndamaged → IsUndamaged result }
@@ -39,8 +38,8 @@ fn told(answered: Result<Reply, NoMemory>) -> Reply
     }
 }
 
-/// The reply to a change, which tells it where it was not published.
-fn change_told(altered: Result<Reply, CommitError>) -> Reply
+/// The reply to a change, also to one that was not published.
+fn reply_to_change(altered: Result<Reply, CommitError>) -> Reply
     ensures reply { IfOk altered (λ reply. result ≡ reply) }
     ensures refused { IfErr altered (λ refused. result ≡ commit_reply refused) }
     ensures undamaged { IfOk altered IsUndamaged → IsUndamaged result }
@@ -60,7 +59,7 @@ impl<V: Device> Store<V> {
     ghost use Rattle.lt_io.specs.Steps.{Steps};
     ghost use Rattle.lt_desc.specs.Lawful.{IsStone};
     ghost use Rattle.lt_desc.specs.Spelling.{spelling};
-    ghost use Rattle.lt_lang.specs.declared.command.Command.TheVariants.{Alter};
+    ghost use Rattle.lt_command.specs.declared.command.Command.TheVariants.{Alter};
     ghost use Rattle.lt_plain.specs.Table.{Answers, IsUndamaged};
     ghost use Rattle.lt_serve.specs.Session.{is_built};
     ghost use Rattle.lt_serve.specs.Growing.{is_change, number_weight, numbers_for};
@@ -68,9 +67,9 @@ impl<V: Device> Store<V> {
 
     /// A table, the anchor of its directory, and the next free file number.
     pub fn new(table: ListTable, anchor: Anchor<V>, next_file: u64) -> Store<V>
-        requires upto { table.kept ≤ 2 ^ 62 }
+        requires kept { table.kept ≤ 2 ^ 62 }
         requires low { table.low < 2 ^ 62 }
-        requires life { IsTrue (is_life table.life) }
+        requires ttl { IsTrue (is_ttl table.ttl) }
         requires free { anchor.directory.now.ceiling ≤ next_file }
         requires in_range { next_file ≤ 2 ^ 62 }
         ensures table { result.table ≡ table }
@@ -106,14 +105,15 @@ impl<V: Device> Store<V> {
     /// The stone of the table under these schemas, whose descriptor file has that number. Takes no memory.
     fn stone_under(&self, alloc: Global, schemas: Schemas, file: u64) -> Stone
         requires { file < 2 ^ 62 }
-        ensures parts { result ≡ record { upto = self.now.table.kept; low = self.now.table.low; ttl = self.now.table.life; next_file = file + 1; schemas = schemas; tablets = [] } }
+        ensures parts { result ≡ record { kept = self.now.table.kept; low = self.now.table.low; ttl = self.now.table.ttl; next_file = file + 1; schemas = schemas; tablets = [] } }
         ensures lawful { IsStone result }
     {
+        // That the first is lawful is known once it is read.
         let _first = schemas.first();
         Stone::new(
             self.table.kept(),
             self.table.low(),
-            self.table.life(),
+            self.table.ttl(),
             file + 1,
             schemas,
             Tablets::from_vec(Vec::new(alloc)),
@@ -185,9 +185,9 @@ impl<V: Device> Store<V> {
         ensures cause { Counts (V.faults device.old) (V.faults device.new) (result ≡ Reply.Fault) }
     {
         match command {
-            Command::Insert { row } => told(self.table.insert(row, now)),
-            Command::Scan { query } => told(self.table.scan(alloc, &query, now)),
-            Command::Alter { change } => change_told(self.alter(alloc, device, &change)),
+            Command::Insert { row } => reply_or_no_memory(self.table.insert(row, now)),
+            Command::Scan { query } => reply_or_no_memory(self.table.scan(alloc, &query, now)),
+            Command::Alter { change } => reply_to_change(self.alter(alloc, device, &change)),
             Command::Latest { prefix: _ }
             | Command::Flush { tablet: _ }
             | Command::Upkeep

@@ -1,7 +1,7 @@
 ghost use Rattle.std.specs.Prelude.{◌≡◌, ◌↔◌, ◌≤◌, ◌<◌, ◌∷◌, [], ℕ, List, Option, None, true, IfSome, map, string_bytes, codes, drop, vec_len, length};
 ghost use Rattle.lt_io.specs.Cause.{Rose};
 ghost use Rattle.lt_reply.specs.Texts.{line_of};
-ghost use Rattle.lt_serve.specs.Words.{IsSession, IsCreation, HasForm};
+ghost use Rattle.lt_serve.specs.Words.{IsRun, IsCreation, HasForm};
 ghost use Rattle.lt_serve.specs.Stops.{Served, Leaves};
 ghost use Rattle.lt_serve.specs.Output.{MayEnd, ReadsFirst, WritesText, WritesRefusal};
 ghost use Rattle.lt_serve.specs.Created.{EndsMaking, WasReady, NoneOrMade, AllMade, MakesOne};
@@ -11,7 +11,7 @@ use crate::Status;
 use crate::creating::create;
 use crate::refusing::refuse;
 use crate::serving::serve;
-use crate::words::{creation_of, is_session};
+use crate::words::{creation_of, is_run};
 use lt_io::{Clock, Device, Sink, Source};
 use std::alloc::Global;
 
@@ -45,37 +45,37 @@ pub fn run<S: Source, K: Sink, V: Device, C: Clock>(
     // What stands before a table is made or loaded calls no device and leaves the directory; wrong words and those that make a
     // table read nothing.
     ensures untouched { StandsBefore result.0 → (result.1 ≡ dir) × (devices.new.items ≡ devices.old.items) }
-    ensures reads_nothing { ¬ IsSession (map string_bytes words.now) → source.new ≡ source.old }
+    ensures reads_nothing { ¬ IsRun (map string_bytes words.now) → source.new ≡ source.old }
 
     // A refusal writes its one line, or a front of it where the sink's count rose.
     ensures refusal { WritesRefusal result.0 (K.held sink.old) (K.held sink.new) (K.faults sink.old) (K.faults sink.new) }
 
     // `create`: which text ends so, which directory, and what is written.
-    ensures schema { (text : List ℕ) (life : Option ℕ) → IsCreation (map string_bytes words.now) text life → EndsMaking result.0 text }
-    ensures ready { (text : List ℕ) (life : Option ℕ) → IsCreation (map string_bytes words.now) text life → V.honest ≡ true → WasReady result.0 (V.directory dir) }
-    ensures created { (text : List ℕ) (life : Option ℕ) → IsCreation (map string_bytes words.now) text life → WritesText (λ text. text ≡ line_of (codes "created")) result.0 (K.held sink.old) (K.held sink.new) }
+    ensures schema { (text : List ℕ) (ttl : Option ℕ) → IsCreation (map string_bytes words.now) text ttl → EndsMaking result.0 text }
+    ensures ready { (text : List ℕ) (ttl : Option ℕ) → IsCreation (map string_bytes words.now) text ttl → V.honest ≡ true → WasReady result.0 (V.directory dir) }
+    ensures created { (text : List ℕ) (ttl : Option ℕ) → IsCreation (map string_bytes words.now) text ttl → WritesText (λ text. text ≡ line_of (codes "created")) result.0 (K.held sink.old) (K.held sink.new) }
 
     // What a stop may leave of it, where there was no descriptor: none, or the empty table; and once it is made, the table.
-    ensures none_or_made { (text : List ℕ) (life : Option ℕ) → IsCreation (map string_bytes words.now) text life → V.honest ≡ true → (V.directory dir).now.may ≡ None ∷ [] → NoneOrMade text life (V.directory dir) (V.directory result.1) }
-    ensures made { (text : List ℕ) (life : Option ℕ) → IsCreation (map string_bytes words.now) text life → V.honest ≡ true → MakesOne result.0 (AllMade text life (V.directory result.1)) }
+    ensures none_or_made { (text : List ℕ) (ttl : Option ℕ) → IsCreation (map string_bytes words.now) text ttl → V.honest ≡ true → (V.directory dir).now.may ≡ None ∷ [] → NoneOrMade text ttl (V.directory dir) (V.directory result.1) }
+    ensures made { (text : List ℕ) (ttl : Option ℕ) → IsCreation (map string_bytes words.now) text ttl → V.honest ≡ true → MakesOne result.0 (AllMade text ttl (V.directory result.1)) }
 
     // `run`: which input and which directory may end so; nothing of a session is written before the input was read to its end.
-    ensures input { IsSession (map string_bytes words.now) → IfSome (S.left source.old) (MayEnd result.0 V.honest (V.directory dir)) }
-    ensures read_first { IsSession (map string_bytes words.now) → ReadsFirst result.0 (S.left source.new) }
+    ensures input { IsRun (map string_bytes words.now) → IfSome (S.left source.old) (MayEnd result.0 V.honest (V.directory dir)) }
+    ensures read_first { IsRun (map string_bytes words.now) → ReadsFirst result.0 (S.left source.new) }
 
     // What is written: the text of a session, of a history that began with the loaded table. By that history each stop leaves
     // what was durable then.
-    ensures text { IsSession (map string_bytes words.now) → IfSome (S.left source.old) (λ input. WritesText (λ text. Served V.honest (C.shows clock.now) (V.directory dir) (V.directory result.1) input text (first_count V.faults devices.old.items) (first_count V.faults devices.new.items)) result.0 (K.held sink.old) (K.held sink.new)) }
+    ensures text { IsRun (map string_bytes words.now) → IfSome (S.left source.old) (λ input. WritesText (λ text. Served V.honest (C.shows clock.now) (V.directory dir) (V.directory result.1) input text (first_count V.faults devices.old.items) (first_count V.faults devices.new.items)) result.0 (K.held sink.old) (K.held sink.new)) }
 
     // What a stop may leave, however it ended.
-    ensures any_moment { IsSession (map string_bytes words.now) → Leaves result.0 V.honest (V.directory dir) (V.directory result.1) }
+    ensures any_moment { IsRun (map string_bytes words.now) → Leaves result.0 V.honest (V.directory dir) (V.directory result.1) }
 {
     let device = &mut devices[0];
-    if is_session(words) {
+    if is_run(words) {
         return serve(alloc, source, sink, dir, device, clock);
     }
     match creation_of(words) {
-        Some(asked) => create(alloc, sink, asked.schema, asked.life, dir, device),
+        Some(asked) => create(alloc, sink, asked.schema, asked.ttl, dir, device),
         None => (refuse(alloc, sink, Status::Usage), dir),
     }
 }

@@ -3,10 +3,10 @@ use Rattle.std.proofs.Common.{◌≡◌, ◌≤◌, ◌<◌, ◌+◌, ◌-◌, �
 use Rattle.std.proofs.lemmas.List.{length-drop, get_or-drop, get_or-take}
 use Rattle.lt_layout.specs.Phases.{AreBytes}
 use Rattle.std.specs.Prelude.{IfErr, IfOk}
-use Rattle.lt_block.specs.declared.fault.Fault.{Fault}
-use Rattle.lt_block.specs.declared.fault.BlockError.{BlockError}
-use Rattle.lt_block.specs.declared.fault.BlockError.TheVariants as block_errors
-use Rattle.lt_block.specs.Reading.{Reads, Gives}
+use Rattle.lt_rec.specs.declared.fault.Fault.{Fault}
+use Rattle.lt_rec.specs.declared.fault.FormatError.{FormatError}
+use Rattle.lt_rec.specs.declared.fault.FormatError.TheVariants as block_errors
+use Rattle.lt_rec.specs.Reading.{Reads, Gives}
 use Rattle.lt_tablet.specs.declared.errors.ReadError.{ReadError}
 use Rattle.lt_tablet.specs.declared.errors.ReadError.TheVariants as read_errors
 use Rattle.lt_tablet.specs.Causes.{IsNoBad, IsOfFile, Refuses, Loads, named, named_block}
@@ -33,17 +33,17 @@ pub named_ok : {X : Type 0} (P : X → Type 0) (file : ℕ) (r : Result X Fault)
 named_ok P file (Ok x) h = h
 named_ok P file (Err fault) h = tt
 
-pub block_loads : {X Y : Type 0} (view : X → Y) (file : ℕ) (r : Result X BlockError) (read : Result Y ℕ) → Gives view r read → Loads view (named_block file r) read
+pub block_loads : {X Y : Type 0} (view : X → Y) (file : ℕ) (r : Result X FormatError) (read : Result Y ℕ) → Gives view r read → Loads view (named_block file r) read
 block_loads view file (Ok x) read h = h
 block_loads view file (Err (block_errors.Bad at)) read h = h
 block_loads view file (Err block_errors.NoMemory) read h = tt
 
-pub block_names : {X : Type 0} (file : ℕ) (r : Result X BlockError) → IfErr (named_block file r) (λ why. IsOfFile file why)
+pub block_names : {X : Type 0} (file : ℕ) (r : Result X FormatError) → IfErr (named_block file r) (λ why. IsOfFile file why)
 block_names file (Ok x) = tt
 block_names file (Err (block_errors.Bad at)) = refl
 block_names file (Err block_errors.NoMemory) = tt
 
-pub block_ok : {X : Type 0} (P : X → Type 0) (file : ℕ) (r : Result X BlockError) → IfOk r P → IfOk (named_block file r) P
+pub block_ok : {X : Type 0} (P : X → Type 0) (file : ℕ) (r : Result X FormatError) → IfOk r P → IfOk (named_block file r) P
 block_ok P file (Ok x) h = h
 block_ok P file (Err (block_errors.Bad at)) h = tt
 block_ok P file (Err block_errors.NoMemory) h = tt
@@ -65,7 +65,7 @@ named_fault view file why r read e h = let P : Result _ ReadError → Type 0 = �
 pub named_answer : {X Y : Type 0} (view : X → Y) (file : ℕ) (q : Result X ReadError) (r : Result X Fault) (read : Result Y ℕ) → q ≡ named file r → Reads view r read → Loads view q read
 named_answer view file q r read e h = let P : Result _ ReadError → Type 0 = λ s. Loads view s read in subst P (sym e) (named_loads view file r read h)
 
-pub block_answer : {X Y : Type 0} (view : X → Y) (file : ℕ) (q : Result X ReadError) (r : Result X BlockError) (read : Result Y ℕ) → q ≡ named_block file r → Gives view r read → Loads view q read
+pub block_answer : {X Y : Type 0} (view : X → Y) (file : ℕ) (q : Result X ReadError) (r : Result X FormatError) (read : Result Y ℕ) → q ≡ named_block file r → Gives view r read → Loads view q read
 block_answer view file q r read e h = let P : Result _ ReadError → Type 0 = λ s. Loads view s read in subst P (sym e) (block_loads view file r read h)
 
 -- bytes that were read

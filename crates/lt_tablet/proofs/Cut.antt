@@ -53,8 +53,8 @@ last_filling blocks filling some = last_append [] (joined blocks) filling ∙ la
 
 -- ---- the steps
 
-pub cut_new : (told : Bool) (w : Writing) → w.pen ≡ w.number → w.index ≡ [] → w.offset ≡ 8 → w.filling ≡ [] → w.found ≡ found_in [] → w.last ≡ [] → (told ≡ true → w.bytes ≡ header) → IsCut told w [] []
-cut_new told w pen index offset filling found last bytes = record {
+pub cut_new : (honest : Bool) (w : Writing) → w.pen ≡ w.number → w.index ≡ [] → w.offset ≡ 8 → w.filling ≡ [] → w.found ≡ found_in [] → w.last ≡ [] → (honest ≡ true → w.bytes ≡ header) → IsCut honest w [] []
+cut_new honest w pen index offset filling found last bytes = record {
   pen_is = pen;
   parts = sym filling;
   each = tt;
@@ -77,9 +77,9 @@ either_first : (filling : List Record) (r : Record) (old new : List ℕ) → (0 
 either_first [] r old new h none some = none refl
 either_first (x ∷ filling) r old new h none some = some (omega arith) ∙ h (omega arith)
 
-pub cut_added : (told : Bool) (old new : Writing) (blocks : List (List Record)) (recs : List Record) (r : Record) → IsCut told old blocks recs → Keeps old new → IsRecord r → is_less old.last r.key ≡ true → InPeriod old.period r.ts → new.filling ≡ old.filling ++ r ∷ [] → new.found ≡ found_in (recs ++ r ∷ []) → new.last ≡ r.key
-    → (length old.filling ≡ 0 → new.first ≡ r.key) → (0 < length old.filling → new.first ≡ old.first) → IsCut told new blocks (recs ++ r ∷ [])
-cut_added told old new blocks recs r h keeps lawful above timed filling found last none some = record {
+pub cut_added : (honest : Bool) (old new : Writing) (blocks : List (List Record)) (recs : List Record) (r : Record) → IsCut honest old blocks recs → Keeps old new → IsRecord r → is_less old.last r.key ≡ true → InPeriod old.period r.ts → new.filling ≡ old.filling ++ r ∷ [] → new.found ≡ found_in (recs ++ r ∷ []) → new.last ≡ r.key
+    → (length old.filling ≡ 0 → new.first ≡ r.key) → (0 < length old.filling → new.first ≡ old.first) → IsCut honest new blocks (recs ++ r ∷ [])
+cut_added honest old new blocks recs r h keeps lawful above timed filling found last none some = record {
   pen_is = keeps.pen ∙ (h.pen_is ∙ sym keeps.number);
   parts = ap (λ (xs : List Record). xs ++ r ∷ []) h.parts ∙ (append_assoc (joined blocks) old.filling (r ∷ []) ∙ ap (λ (xs : List Record). joined blocks ++ xs) (sym filling));
   each = h.each;
@@ -95,7 +95,7 @@ cut_added told old new blocks recs r h keeps lawful above timed filling found la
 }
 
 -- what stays where a block is put
-pub record Puts (told : Bool) (old new : Writing) (e : Entry) : Type 0 where
+pub record Puts (honest : Bool) (old new : Writing) (e : Entry) : Type 0 where
   pub pen : new.pen ≡ old.pen
   pub number : new.number ≡ old.number
   pub period : new.period ≡ old.period
@@ -104,13 +104,13 @@ pub record Puts (told : Bool) (old new : Writing) (e : Entry) : Type 0 where
   pub filling : new.filling ≡ []
   pub found : new.found ≡ old.found
   pub last : new.last ≡ old.last
-  pub bytes : told ≡ true → new.bytes ≡ old.bytes ++ spelling old.filling
+  pub bytes : honest ≡ true → new.bytes ≡ old.bytes ++ spelling old.filling
 
 abbrev made : (offset len count : ℕ) → (first last : List ℕ) → Entry
 made offset len count first last = record { offset = offset; len = len; count = count; first = first; last = last }
 
-pub cut_put : (told : Bool) (old new : Writing) (blocks : List (List Record)) (recs : List Record) → IsCut told old blocks recs → IsBlock old.filling → Puts told old new (made old.offset (length (spelling old.filling)) (length old.filling) old.first old.last) → IsCut told new (blocks ++ old.filling ∷ []) recs
-cut_put told old new blocks recs h block puts =
+pub cut_put : (honest : Bool) (old new : Writing) (blocks : List (List Record)) (recs : List Record) → IsCut honest old blocks recs → IsBlock old.filling → Puts honest old new (made old.offset (length (spelling old.filling)) (length old.filling) old.first old.last) → IsCut honest new (blocks ++ old.filling ∷ []) recs
+cut_put honest old new blocks recs h block puts =
     let last : old.last ≡ last_key [] old.filling = h.last_is ∙ (ap (last_key []) h.parts ∙ last_filling blocks old.filling block.some) in
     record {
       pen_is = puts.pen ∙ (h.pen_is ∙ sym puts.number);
@@ -149,8 +149,8 @@ less_nil [] some = absurd (omega (arith, some))
 less_nil (x ∷ a) some = refl
 
 -- the key may follow in the block that fills
-pub room_above : (told : Bool) (w : Writing) (recs : List Record) (r : Record) → Wrote told w recs → IsRecord r → is_less w.last r.key ≡ true → is_less (last_key [] w.filling) r.key ≡ true
-room_above told w recs r h lawful above = by w.filling refl
+pub room_above : (honest : Bool) (w : Writing) (recs : List Record) (r : Record) → Wrote honest w recs → IsRecord r → is_less w.last r.key ≡ true → is_less (last_key [] w.filling) r.key ≡ true
+room_above honest w recs r h lawful above = by w.filling refl
   where
     by : (filling : List Record) → w.filling ≡ filling → is_less (last_key [] filling) r.key ≡ true
     by [] e = less_nil r.key (omega (arith, lawful.long_enough))
@@ -158,8 +158,8 @@ room_above told w recs r h lawful above = by w.filling refl
         let last : w.last ≡ last_key [] (x ∷ xs) = h.cut.last_is ∙ (ap (last_key []) h.cut.parts ∙ (ap (λ (f : List Record). last_key [] (joined h.blocks ++ f)) e ∙ last_filling h.blocks (x ∷ xs) (omega arith))) in
         ap (λ (k : List ℕ). is_less k r.key) (sym last) ∙ above
 
-pub filled_full : (told : Bool) (w mid new : Writing) (blocks : List (List Record)) (recs : List Record) (r : Record) → IsCut told mid blocks recs → mid.filling ≡ [] → Keeps mid new → new.filling ≡ r ∷ [] → new.found ≡ mid.found → new.first ≡ mid.first → new.last ≡ mid.last → Filled told new recs r
-filled_full told w mid new blocks recs r cut empty keeps filling found first last = record {
+pub filled_full : (honest : Bool) (w mid new : Writing) (blocks : List (List Record)) (recs : List Record) (r : Record) → IsCut honest mid blocks recs → mid.filling ≡ [] → Keeps mid new → new.filling ≡ r ∷ [] → new.found ≡ mid.found → new.first ≡ mid.first → new.last ≡ mid.last → Filled honest new recs r
+filled_full honest w mid new blocks recs r cut empty keeps filling found first last = record {
   blocks = blocks;
   old = mid;
   cut = cut;
@@ -189,14 +189,14 @@ pub record Noted (old new : Writing) (r : Record) : Type 0 where
   pub filling : new.filling ≡ old.filling
   pub keeps : Keeps old new
 
-pub added_from : (told : Bool) (self fill note : Writing) (recs : List Record) (r : Record) → Wrote told self recs → Filled told fill recs r → fill.period ≡ self.period → Noted fill note r → IsRecord r → is_less self.last r.key ≡ true → InPeriod self.period r.ts → Wrote told note (recs ++ r ∷ [])
-added_from told self fill note recs r wrote f period n lawful above timed =
+pub added_from : (honest : Bool) (self fill note : Writing) (recs : List Record) (r : Record) → Wrote honest self recs → Filled honest fill recs r → fill.period ≡ self.period → Noted fill note r → IsRecord r → is_less self.last r.key ≡ true → InPeriod self.period r.ts → Wrote honest note (recs ++ r ∷ [])
+added_from honest self fill note recs r wrote f period n lawful above timed =
     let last : f.old.last ≡ self.last = f.cut.last_is ∙ sym wrote.cut.last_is in
     let periods : f.old.period ≡ self.period = sym f.keeps.period ∙ period in
     let one : length fill.filling ≡ length f.old.filling + 1 = omega (arith, ap length f.filling, length-append f.old.filling (r ∷ [])) in
     record {
       blocks = f.blocks;
-      cut = cut_added told f.old note f.blocks recs r f.cut (keeps_then f.old fill note f.keeps n.keeps) lawful (ap (λ (k : List ℕ). is_less k r.key) last ∙ above) (subst (λ (p : Stretch). InPeriod p r.ts) (sym periods) timed)
+      cut = cut_added honest f.old note f.blocks recs r f.cut (keeps_then f.old fill note f.keeps n.keeps) lawful (ap (λ (k : List ℕ). is_less k r.key) last ∙ above) (subst (λ (p : Stretch). InPeriod p r.ts) (sym periods) timed)
           (n.filling ∙ f.filling) (n.found recs f.cut.lawful (f.last ∙ f.cut.last_is) (f.found ∙ f.cut.found_is)) n.last
           (λ none. n.first (omega (arith, one, none))) (λ some. n.same_first (λ (e : length fill.filling ≡ 1). omega (arith, one, e, some)) ∙ f.first);
       fills = λ some. omega (arith, ap length n.filling, one);
@@ -208,7 +208,7 @@ abbrev pub filter_of_hashes : Writing → List ℕ
 filter_of_hashes w = filter_bytes w.found.hashes
 
 -- what the file's parts are, once its last block went out
-pub record Closes (told : Bool) (w : Writing) (listed : Listed) (filter bytes : List ℕ) (number size : ℕ) : Type 0 where
+pub record Closes (honest : Bool) (w : Writing) (listed : Listed) (filter bytes : List ℕ) (number size : ℕ) : Type 0 where
   pub filling : w.filling ≡ []
   pub some : 0 < w.found.totals.rows
   pub totals : listed_totals listed ≡ w.found.totals
@@ -217,7 +217,7 @@ pub record Closes (told : Bool) (w : Writing) (listed : Listed) (filter bytes : 
   pub in_range : size < 2 ^ 64
   pub length_is : listed.bytes ≡ w.offset + length (flat_map entry_spelled w.index) + length filter + 88
   pub filter_is : filter ≡ filter_of_hashes w
-  pub bytes_are : told ≡ true → bytes ≡ ((w.bytes ++ flat_map entry_spelled w.index) ++ filter) ++ footer_spelled (record { index = w.offset; blocks = length w.index; filter = w.offset + length (flat_map entry_spelled w.index); filter_len = length filter }) w.found.totals
+  pub bytes_are : honest ≡ true → bytes ≡ ((w.bytes ++ flat_map entry_spelled w.index) ++ filter) ++ footer_spelled (record { index = w.offset; blocks = length w.index; filter = w.offset + length (flat_map entry_spelled w.index); filter_len = length filter }) w.found.totals
 
 abbrev pub wanted : Writing → List ℕ → Parts
 wanted w filter = record { index = w.offset; blocks = length w.index; filter = w.offset + length (flat_map entry_spelled w.index); filter_len = length filter }
@@ -237,8 +237,8 @@ pub record Whole (w : Writing) (blocks : List (List Record)) (recs : List Record
   pub recs_are : recs ≡ joined blocks
   pub tablet : IsTablet blocks
 
-pub all_out : (told : Bool) (w : Writing) (blocks : List (List Record)) (recs : List Record) → IsCut told w blocks recs → w.filling ≡ [] → 0 < w.found.totals.rows → Whole w blocks recs
-all_out told w blocks recs h none some =
+pub all_out : (honest : Bool) (w : Writing) (blocks : List (List Record)) (recs : List Record) → IsCut honest w blocks recs → w.filling ≡ [] → 0 < w.found.totals.rows → Whole w blocks recs
+all_out honest w blocks recs h none some =
     let recs_are : recs ≡ joined blocks = h.parts ∙ (ap (λ (xs : List Record). joined blocks ++ xs) none ∙ append-nil (joined blocks)) in
     let rows : w.found.totals.rows ≡ length recs = ap (λ (f : Found). f.totals.rows) h.found_is in
     record {
@@ -255,9 +255,9 @@ joined_up a b c d e x y z p q r =
     ∙ (append_assoc a (b ++ c) (d ++ e)
     ∙ ap (λ (s : List ℕ). a ++ s) (append_assoc b c (d ++ e))))))
 
-pub closed_spelled : (told : Bool) (w : Writing) (listed : Listed) (filter bytes : List ℕ) (number size : ℕ) (blocks : List (List Record)) (recs : List Record) → IsCut told w blocks recs → Closes told w listed filter bytes number size → told ≡ true → bytes ≡ file_of blocks
-closed_spelled told w listed filter bytes number size blocks recs h c honest =
-    let whole = all_out told w blocks recs h c.filling c.some in
+pub closed_spelled : (honest : Bool) (w : Writing) (listed : Listed) (filter bytes : List ℕ) (number size : ℕ) (blocks : List (List Record)) (recs : List Record) → IsCut honest w blocks recs → Closes honest w listed filter bytes number size → honest ≡ true → bytes ≡ file_of blocks
+closed_spelled honest w listed filter bytes number size blocks recs h c is_honest =
+    let whole = all_out honest w blocks recs h c.filling c.some in
     let found : w.found ≡ found_in (joined blocks) = h.found_is ∙ ap found_in whole.recs_are in
     let filter_so : filter ≡ filter_of (joined blocks) = c.filter_is ∙ ap (λ (f : Found). filter_bytes f.hashes) found in
     let index_so : flat_map entry_spelled w.index ≡ index_spelled blocks = ap (flat_map entry_spelled) h.index_is in
@@ -266,36 +266,36 @@ closed_spelled told w listed filter bytes number size blocks recs h c honest =
     h.offset_is (ap length h.index_is ∙ length_entries 8 blocks) (omega (arith, h.offset_is, ap length index_so)) (ap length filter_so))
     ∙ ap (λ (f : Found). footer_spelled (parts_of blocks) f.totals) found in
     let front : w.bytes ++ flat_map entry_spelled w.index ≡ header ++ (blocks_spelled blocks ++ index_spelled blocks) =
-    ap (λ (x : List ℕ). x ++ flat_map entry_spelled w.index) (h.bytes_are honest) ∙ (append_assoc header (blocks_spelled blocks) (flat_map entry_spelled w.index) ∙ ap (λ (x : List ℕ). header ++ (blocks_spelled blocks ++ x)) index_so) in
-    c.bytes_are honest ∙ joined_up header (blocks_spelled blocks) (index_spelled blocks) (filter_of (joined blocks)) (footer_spelled (parts_of blocks) (totals_of (joined blocks))) (w.bytes ++ flat_map entry_spelled w.index) filter (footer_spelled (wanted w filter) w.found.totals) front filter_so foot
+    ap (λ (x : List ℕ). x ++ flat_map entry_spelled w.index) (h.bytes_are is_honest) ∙ (append_assoc header (blocks_spelled blocks) (flat_map entry_spelled w.index) ∙ ap (λ (x : List ℕ). header ++ (blocks_spelled blocks ++ x)) index_so) in
+    c.bytes_are is_honest ∙ joined_up header (blocks_spelled blocks) (index_spelled blocks) (filter_of (joined blocks)) (footer_spelled (parts_of blocks) (totals_of (joined blocks))) (w.bytes ++ flat_map entry_spelled w.index) filter (footer_spelled (wanted w filter) w.found.totals) front filter_so foot
 
-closed_totals : (told : Bool) (w : Writing) (listed : Listed) (filter bytes : List ℕ) (number size : ℕ) (blocks : List (List Record)) (recs : List Record) → IsCut told w blocks recs → Closes told w listed filter bytes number size → totals_of (joined blocks) ≡ listed_totals listed
-closed_totals told w listed filter bytes number size blocks recs h c =
-    let whole = all_out told w blocks recs h c.filling c.some in
+closed_totals : (honest : Bool) (w : Writing) (listed : Listed) (filter bytes : List ℕ) (number size : ℕ) (blocks : List (List Record)) (recs : List Record) → IsCut honest w blocks recs → Closes honest w listed filter bytes number size → totals_of (joined blocks) ≡ listed_totals listed
+closed_totals honest w listed filter bytes number size blocks recs h c =
+    let whole = all_out honest w blocks recs h c.filling c.some in
     let found : w.found ≡ found_in (joined blocks) = h.found_is ∙ ap found_in whole.recs_are in
     sym (c.totals ∙ ap (λ (f : Found). f.totals) found)
 
-closed_long : (told : Bool) (w : Writing) (listed : Listed) (filter bytes : List ℕ) (number size : ℕ) (blocks : List (List Record)) (recs : List Record) → IsCut told w blocks recs → Closes told w listed filter bytes number size → length (file_of blocks) ≡ listed.bytes
-closed_long told w listed filter bytes number size blocks recs h c =
-    let whole = all_out told w blocks recs h c.filling c.some in
+closed_long : (honest : Bool) (w : Writing) (listed : Listed) (filter bytes : List ℕ) (number size : ℕ) (blocks : List (List Record)) (recs : List Record) → IsCut honest w blocks recs → Closes honest w listed filter bytes number size → length (file_of blocks) ≡ listed.bytes
+closed_long honest w listed filter bytes number size blocks recs h c =
+    let whole = all_out honest w blocks recs h c.filling c.some in
     let found : w.found ≡ found_in (joined blocks) = h.found_is ∙ ap found_in whole.recs_are in
     let filter_so : filter ≡ filter_of (joined blocks) = c.filter_is ∙ ap (λ (f : Found). filter_bytes f.hashes) found in
     let index_so : flat_map entry_spelled w.index ≡ index_spelled blocks = ap (flat_map entry_spelled) h.index_is in
     let parts = file_parts blocks whole.tablet in
     omega (arith, parts.len, c.length_is, h.offset_is, ap length index_so, ap length filter_so)
 
-closed_read : (told : Bool) (w : Writing) (listed : Listed) (filter bytes : List ℕ) (number size : ℕ) (blocks : List (List Record)) (recs : List Record) → IsCut told w blocks recs → Closes told w listed filter bytes number size → told ≡ true → file_at (listed_totals listed) listed.bytes bytes ≡ Ok blocks
-closed_read told w listed filter bytes number size blocks recs h c honest =
-    let whole = all_out told w blocks recs h c.filling c.some in
-    let long = closed_long told w listed filter bytes number size blocks recs h c in
-    ap (λ (s : Totals). file_at s listed.bytes bytes) (sym (closed_totals told w listed filter bytes number size blocks recs h c))
+closed_read : (honest : Bool) (w : Writing) (listed : Listed) (filter bytes : List ℕ) (number size : ℕ) (blocks : List (List Record)) (recs : List Record) → IsCut honest w blocks recs → Closes honest w listed filter bytes number size → honest ≡ true → file_at (listed_totals listed) listed.bytes bytes ≡ Ok blocks
+closed_read honest w listed filter bytes number size blocks recs h c is_honest =
+    let whole = all_out honest w blocks recs h c.filling c.some in
+    let long = closed_long honest w listed filter bytes number size blocks recs h c in
+    ap (λ (s : Totals). file_at s listed.bytes bytes) (sym (closed_totals honest w listed filter bytes number size blocks recs h c))
     ∙ (ap (λ (n : ℕ). file_at (totals_of (joined blocks)) n bytes) (sym long)
-    ∙ (ap (file_at (totals_of (joined blocks)) (length (file_of blocks))) (closed_spelled told w listed filter bytes number size blocks recs h c honest)
+    ∙ (ap (file_at (totals_of (joined blocks)) (length (file_of blocks))) (closed_spelled honest w listed filter bytes number size blocks recs h c is_honest)
     ∙ file_again blocks whole.tablet (omega (arith, long, c.size_is, c.in_range))))
 
-pub closed : (told : Bool) (w : Writing) (listed : Listed) (filter bytes : List ℕ) (number size : ℕ) (blocks : List (List Record)) (recs : List Record) → IsCut told w blocks recs → Closes told w listed filter bytes number size → IsLoaded told number size (record { listed = listed; index = w.index; filter = filter; bytes = bytes })
-closed told w listed filter bytes number size blocks recs h c =
-    let whole = all_out told w blocks recs h c.filling c.some in
+pub closed : (honest : Bool) (w : Writing) (listed : Listed) (filter bytes : List ℕ) (number size : ℕ) (blocks : List (List Record)) (recs : List Record) → IsCut honest w blocks recs → Closes honest w listed filter bytes number size → IsLoaded honest number size (record { listed = listed; index = w.index; filter = filter; bytes = bytes })
+closed honest w listed filter bytes number size blocks recs h c =
+    let whole = all_out honest w blocks recs h c.filling c.some in
     let t : Loaded = record { listed = listed; index = w.index; filter = filter; bytes = bytes } in
     let found : w.found ≡ found_in (joined blocks) = h.found_is ∙ ap found_in whole.recs_are in
     let filter_so : filter ≡ filter_of (joined blocks) = c.filter_is ∙ ap (λ (f : Found). filter_bytes f.hashes) found in
@@ -308,15 +308,15 @@ closed told w listed filter bytes number size blocks recs h c =
       some = omega (arith, ap length h.index_is, length_entries 8 blocks, whole.tablet.some);
       entries = subst (λ (n : ℕ). IsEntries n 8 [] w.index) (sym end) (subst (IsEntries (8 + length (blocks_spelled blocks)) 8 []) (sym h.index_is) entries);
       within = omega (arith, end, c.size_is, c.length_is, h.offset_is);
-      file = λ honest. told_from t blocks (closed_read told w listed filter bytes number size blocks recs h c honest) whole.tablet (closed_spelled told w listed filter bytes number size blocks recs h c honest) (closed_totals told w listed filter bytes number size blocks recs h c) h.index_is filter_so;
+      file = λ is_honest. told_from t blocks (closed_read honest w listed filter bytes number size blocks recs h c is_honest) whole.tablet (closed_spelled honest w listed filter bytes number size blocks recs h c is_honest) (closed_totals honest w listed filter bytes number size blocks recs h c) h.index_is filter_so;
     }
 
-pub closed_records : (told : Bool) (w : Writing) (listed : Listed) (filter bytes : List ℕ) (number size : ℕ) (blocks : List (List Record)) (recs : List Record) → IsCut told w blocks recs → Closes told w listed filter bytes number size → HasRecords told (record { listed = listed; index = w.index; filter = filter; bytes = bytes }) recs
-closed_records told w listed filter bytes number size blocks recs h c =
-    let whole = all_out told w blocks recs h c.filling c.some in
+pub closed_records : (honest : Bool) (w : Writing) (listed : Listed) (filter bytes : List ℕ) (number size : ℕ) (blocks : List (List Record)) (recs : List Record) → IsCut honest w blocks recs → Closes honest w listed filter bytes number size → HasRecords honest (record { listed = listed; index = w.index; filter = filter; bytes = bytes }) recs
+closed_records honest w listed filter bytes number size blocks recs h c =
+    let whole = all_out honest w blocks recs h c.filling c.some in
     record {
       totals = c.totals ∙ ap (λ (f : Found). f.totals) h.found_is;
-      file = λ honest. ap (λ q. joined (ok_or_no_blocks q)) (closed_read told w listed filter bytes number size blocks recs h c honest) ∙ sym whole.recs_are;
+      file = λ is_honest. ap (λ q. joined (ok_or_no_blocks q)) (closed_read honest w listed filter bytes number size blocks recs h c is_honest) ∙ sym whole.recs_are;
     }
 
 -- ---- the listing's bounds lie in the period
@@ -339,8 +339,8 @@ greatest_in p (r ∷ recs) some h = record {
   not_over = greatest_below (λ x. x.ts) (p.start + p.len) (r ∷ recs) (omega (arith, h.0.not_over)) (all_of (λ x. InPeriod p x.ts) (λ x. x.ts < p.start + p.len) (λ x k. k.not_over) (r ∷ recs) h);
 }
 
-pub closed_listing : (told : Bool) (w : Writing) (listed : Listed) (blocks : List (List Record)) (recs : List Record) → IsCut told w blocks recs → 0 < w.found.totals.rows → listed_totals listed ≡ w.found.totals → listed.file ≡ w.number → listed.period ≡ w.period → IsListing listed w.number w.period
-closed_listing told w listed blocks recs h some totals file period =
+pub closed_listing : (honest : Bool) (w : Writing) (listed : Listed) (blocks : List (List Record)) (recs : List Record) → IsCut honest w blocks recs → 0 < w.found.totals.rows → listed_totals listed ≡ w.found.totals → listed.file ≡ w.number → listed.period ≡ w.period → IsListing listed w.number w.period
+closed_listing honest w listed blocks recs h some totals file period =
     let found : listed_totals listed ≡ totals_of recs = totals ∙ ap (λ (f : Found). f.totals) h.found_is in
     let rows : 0 < length recs = omega (arith, some, ap (λ (f : Found). f.totals.rows) h.found_is) in
     record {

@@ -5,8 +5,8 @@ use Rattle.std.proofs.lemmas.List.{length-drop, get_or_past}
 use Rattle.lt_rec.specs.Record.{Record}
 use Rattle.lt_rec.specs.Records.{joined}
 use Rattle.lt_bloom.specs.Filter.{filter_bytes}
-use Rattle.lt_block.specs.Reading.{◌>>=◌}
-use Rattle.lt_block.proofs.Fields.{IsBytes, IsBytes-take, IsBytes-drop, bind_ok, ok_is}
+use Rattle.lt_rec.specs.Reading.{◌>>=◌}
+use Rattle.lt_rec.proofs.Reading.{IsBytes, IsBytes-take, IsBytes-drop, bind_ok, ok_is}
 use Rattle.lt_block.proofs.Loop.{err_is}
 use Rattle.lt_tablet.specs.declared.errors.ReadError.{ReadError}
 use Rattle.lt_tablet.specs.declared.errors.ReadError.TheVariants as read_errors

@@ -3,10 +3,10 @@ use Rattle.std.proofs.Common.{◌≡◌, ℕ, zero, suc, ◌+◌, ◌<◌, Bool,
 use Rattle.std.specs.Prelude.{slice_get, Option, Some, None, IfOk, IfErr}
 use Rattle.lt_rec.specs.Record.{Record}
 use Rattle.lt_rec.specs.Records.{joined}
-use Rattle.lt_block.specs.declared.fault.BlockError.{BlockError}
-use Rattle.lt_block.specs.declared.fault.BlockError.TheVariants as block_errors
-use Rattle.lt_block.specs.Reading.{Gives}
-use Rattle.lt_block.proofs.Fields.{bind_ok, ok_is}
+use Rattle.lt_rec.specs.declared.fault.FormatError.{FormatError}
+use Rattle.lt_rec.specs.declared.fault.FormatError.TheVariants as block_errors
+use Rattle.lt_rec.specs.Reading.{Gives}
+use Rattle.lt_rec.proofs.Reading.{bind_ok, ok_is}
 use Rattle.lt_tablet.specs.declared.errors.ReadError.{ReadError}
 use Rattle.lt_tablet.specs.declared.errors.ReadError.TheVariants as read_errors
 use Rattle.lt_layout.specs.Spelling.{Entry, Totals, end_of, entries_of, index_spelled, filter_of, footer_spelled, parts_of, totals_of, file_of, IsTablet, listed_totals}
@@ -96,12 +96,12 @@ found_no_bad recs start (Err read_errors.NoMemory) read e h = tt
 abbrev done : List Record → Result (List Record) ℕ
 done recs = Ok recs
 
-pub again_within : (n : ℕ) (recs : List Record) (r : Result (List Record) BlockError) (read : Result (List Record) ℕ) → read ≡ Ok recs → Gives (λ b. b) r read → IfErr r (λ why. IsWithin n why)
+pub again_within : (n : ℕ) (recs : List Record) (r : Result (List Record) FormatError) (read : Result (List Record) ℕ) → read ≡ Ok recs → Gives (λ b. b) r read → IfErr r (λ why. IsWithin n why)
 again_within n recs (Ok block) read e h = tt
 again_within n recs (Err (block_errors.Bad at)) read e h = let no : done recs ≡ Err at = sym e ∙ h in absurd cc
 again_within n recs (Err block_errors.NoMemory) read e h = tt
 
-pub again_exact : (r : Result (List Record) BlockError) (read own : Result (List Record) ℕ) → own ≡ read → Gives (λ b. b) r read → Gives (λ b. b) r own
+pub again_exact : (r : Result (List Record) FormatError) (read own : Result (List Record) ℕ) → own ≡ read → Gives (λ b. b) r read → Gives (λ b. b) r own
 again_exact r read own e h = subst (λ (q : Result (List Record) ℕ). Gives {X = List Record} (λ b. b) r q) (sym e) h
 
 -- ---- what is told of a file that was read
@@ -136,10 +136,10 @@ tablet_lies honest number size t now i e same h lt is =
     record { within = omega (arith, lies.within, h.within); short = lies.short; some = lies.some }
 
 pub tablet_block : (honest : Bool) (number size : ℕ) (t now : Loaded) (i : ℕ) (e : Entry) (r : Result (List Record) ReadError) → t ≡ now → IsLoaded honest number size t → i < length now.index → e ≡ get_or t.index i e → honest ≡ true → Loads (λ b. b) r (moved e.offset (own_part (listed_totals t.listed) e t.bytes)) → IfOk r (λ block. slice_get (blocks_in now) i ≡ Some block)
-tablet_block honest number size t now i e r same h lt is told l =
-    let there = told_block t i e (h.file told) h.entries (entry_at_place t now i e same lt is) in
+tablet_block honest number size t now i e r same h lt is is_honest l =
+    let there = told_block t i e (h.file is_honest) h.entries (entry_at_place t now i e same lt is) in
     subst (λ (n : Loaded). IfOk r (λ block. slice_get (blocks_in n) i ≡ Some block)) same (found_there (blocks_in t) (listed_totals t.listed) t.bytes i e r there l)
 
 pub tablet_never_bad : (honest : Bool) (number size : ℕ) (t now : Loaded) (i : ℕ) (e : Entry) (r : Result (List Record) ReadError) → t ≡ now → IsLoaded honest number size t → i < length now.index → e ≡ get_or t.index i e → honest ≡ true → Loads (λ b. b) r (moved e.offset (own_part (listed_totals t.listed) e t.bytes)) → IfErr r (λ why. IsNoBad why)
-tablet_never_bad honest number size t now i e r same h lt is told l =
-    never_bad (blocks_in t) (listed_totals t.listed) t.bytes i e r (told_block t i e (h.file told) h.entries (entry_at_place t now i e same lt is)) l
+tablet_never_bad honest number size t now i e r same h lt is is_honest l =
+    never_bad (blocks_in t) (listed_totals t.listed) t.bytes i e r (told_block t i e (h.file is_honest) h.entries (entry_at_place t now i e same lt is)) l

@@ -113,27 +113,27 @@ clash : {A : Type 0} (b : Bool) → b ≡ true → b ≡ false → A
 clash true h k = absurd cc
 clash false h k = absurd cc
 
-pub exactly : (t : Loaded) (area : RawBox) (from to : ℕ) → times_meet area t.listed ≡ true → IsPartitionPoint (λ e. not (meets_lo area.lo e.last) ≡ true) (λ e. not (meets_lo area.lo e.last) ≡ false) t.index from → IsPartitionPoint (λ e. meets_hi area.hi e.first ≡ true) (λ e. meets_hi area.hi e.first ≡ false) t.index to → to ≤ length t.index → IsIndexRange t area (min from to) to
-exactly t area from to times low high le = record {
+pub exactly : (t : Loaded) (raw_box : RawBox) (from to : ℕ) → times_meet raw_box t.listed ≡ true → IsPartitionPoint (λ e. not (meets_lo raw_box.lo e.last) ≡ true) (λ e. not (meets_lo raw_box.lo e.last) ≡ false) t.index from → IsPartitionPoint (λ e. meets_hi raw_box.hi e.first ≡ true) (λ e. meets_hi raw_box.hi e.first ≡ false) t.index to → to ≤ length t.index → IsIndexRange t raw_box (min from to) to
+exactly t raw_box from to times low high le = record {
   ordered = omega arith;
   within = le;
   exactly = λ i e q.
       let lt = slice_get_within t.index i e q in
       let here : get_or t.index i e ≡ e = get_or_from_slice_get t.index i e e q in (
         λ h.
-            let last : meets_lo area.lo e.last ≡ true = not_is_true (meets_lo area.lo e.last) (ap (λ (x : Entry). not (meets_lo area.lo x.last)) (sym here) ∙ low.1 i e (omega (arith, h.0, h.1)) lt) in
-            let first : meets_hi area.hi e.first ≡ true = ap (λ (x : Entry). meets_hi area.hi x.first) (sym here) ∙ high.0 i e (omega arith) h.1 in
-            and_from (times_meet area t.listed) (may_have area e) times (and_from (meets_lo area.lo e.last) (meets_hi area.hi e.first) last first),
+            let last : meets_lo raw_box.lo e.last ≡ true = not_is_true (meets_lo raw_box.lo e.last) (ap (λ (x : Entry). not (meets_lo raw_box.lo x.last)) (sym here) ∙ low.1 i e (omega (arith, h.0, h.1)) lt) in
+            let first : meets_hi raw_box.hi e.first ≡ true = ap (λ (x : Entry). meets_hi raw_box.hi x.first) (sym here) ∙ high.0 i e (omega arith) h.1 in
+            and_from (times_meet raw_box t.listed) (may_have raw_box e) times (and_from (meets_lo raw_box.lo e.last) (meets_hi raw_box.hi e.first) last first),
         λ h.
-            let both = and_parts (times_meet area t.listed) (may_have area e) h in
-            let keys = and_parts (meets_lo area.lo e.last) (meets_hi area.hi e.first) both.1 in
+            let both = and_parts (times_meet raw_box t.listed) (may_have raw_box e) h in
+            let keys = and_parts (meets_lo raw_box.lo e.last) (meets_hi raw_box.hi e.first) both.1 in
             let above : from ≤ i = elim (cases_lt i from) [
-              | inl below ↦ clash (meets_lo area.lo e.last) keys.0 (not_is_false (meets_lo area.lo e.last) (ap (λ (x : Entry). not (meets_lo area.lo x.last)) (sym here) ∙ low.0 i e (omega arith) below))
+              | inl below ↦ clash (meets_lo raw_box.lo e.last) keys.0 (not_is_false (meets_lo raw_box.lo e.last) (ap (λ (x : Entry). not (meets_lo raw_box.lo x.last)) (sym here) ∙ low.0 i e (omega arith) below))
               | inr ge ↦ ge
             ] in
             let below : i < to = elim (cases_lt i to) [
               | inl less ↦ less
-              | inr ge ↦ clash (meets_hi area.hi e.first) keys.1 (ap (λ (x : Entry). meets_hi area.hi x.first) (sym here) ∙ high.1 i e ge lt)
+              | inr ge ↦ clash (meets_hi raw_box.hi e.first) keys.1 (ap (λ (x : Entry). meets_hi raw_box.hi x.first) (sym here) ∙ high.1 i e ge lt)
             ] in
             (omega (arith, above), below),
       );
@@ -142,7 +142,7 @@ exactly t area from to times low high le = record {
 -- ---- no block outside it has a record of the box
 
 abbrev IsOut : RawBox → Record → Type 0
-IsOut area r = in_box area r ≡ false
+IsOut raw_box r = in_box raw_box r ≡ false
 
 every : (P : Record → Type 0) (recs : List Record) → AllByRecursion P recs → All P recs
 every P [] h k d lt = absurd (omega (arith, lt))
@@ -160,23 +160,23 @@ none_below cut key (r ∷ recs) some rising long h =
     let here = up_closed cut key r.key some (less_not key r.key rising.0) h in
     (here, none_below cut r.key recs (omega (arith, long.0)) rising.1 long.1 here)
 
-out_low : (area : RawBox) (cut : Cut) (r : Record) → area.lo ≡ Some cut → is_below cut r.key ≡ true → IsOut area r
-out_low area cut r lo h =
-    let low : meets_lo area.lo r.key ≡ false = ap (λ (c : Option Cut). meets_lo c r.key) lo ∙ ap not h in
-    ap (λ (b : Bool). (b && meets_hi area.hi r.key) && (leb area.from r.ts && leb r.ts area.to)) low
+out_low : (raw_box : RawBox) (cut : Cut) (r : Record) → raw_box.lo ≡ Some cut → is_below cut r.key ≡ true → IsOut raw_box r
+out_low raw_box cut r lo h =
+    let low : meets_lo raw_box.lo r.key ≡ false = ap (λ (c : Option Cut). meets_lo c r.key) lo ∙ ap not h in
+    ap (λ (b : Bool). (b && meets_hi raw_box.hi r.key) && (leb raw_box.from r.ts && leb r.ts raw_box.to)) low
 
-out_high : (area : RawBox) (cut : Cut) (r : Record) → area.hi ≡ Some cut → is_below cut r.key ≡ false → IsOut area r
-out_high area cut r hi h =
-    let high : meets_hi area.hi r.key ≡ false = ap (λ (c : Option Cut). meets_hi c r.key) hi ∙ h in
-    ap (λ (b : Bool). (meets_lo area.lo r.key && b) && (leb area.from r.ts && leb r.ts area.to)) high ∙ none (meets_lo area.lo r.key) (leb area.from r.ts && leb r.ts area.to)
+out_high : (raw_box : RawBox) (cut : Cut) (r : Record) → raw_box.hi ≡ Some cut → is_below cut r.key ≡ false → IsOut raw_box r
+out_high raw_box cut r hi h =
+    let high : meets_hi raw_box.hi r.key ≡ false = ap (λ (c : Option Cut). meets_hi c r.key) hi ∙ h in
+    ap (λ (b : Bool). (meets_lo raw_box.lo r.key && b) && (leb raw_box.from r.ts && leb r.ts raw_box.to)) high ∙ none (meets_lo raw_box.lo r.key) (leb raw_box.from r.ts && leb r.ts raw_box.to)
   where
     none : (a b : Bool) → ((a && false) && b) ≡ false
     none true b = refl
     none false b = refl
 
-each_out : (area : RawBox) (P : Record → Type 0) → ((r : Record) → P r → IsOut area r) → (recs : List Record) → AllByRecursion P recs → AllByRecursion (IsOut area) recs
-each_out area P f [] h = tt
-each_out area P f (r ∷ recs) h = (f r h.0, each_out area P f recs h.1)
+each_out : (raw_box : RawBox) (P : Record → Type 0) → ((r : Record) → P r → IsOut raw_box r) → (recs : List Record) → AllByRecursion P recs → AllByRecursion (IsOut raw_box) recs
+each_out raw_box P f [] h = tt
+each_out raw_box P f (r ∷ recs) h = (f r h.0, each_out raw_box P f recs h.1)
 
 long_keys : (recs : List Record) → IsBlock recs → AllByRecursion (λ r. 8 ≤ length r.key) recs
 long_keys recs h = from recs h.lawful
@@ -185,21 +185,21 @@ long_keys recs h = from recs h.lawful
     from [] k = tt
     from (r ∷ rs) k = (k.0.long_enough, from rs k.1)
 
-below_block : (area : RawBox) (recs : List Record) → IsBlock recs → meets_lo area.lo (last_key [] recs) ≡ false → AllByRecursion (IsOut area) recs
-below_block area recs h low = by area.lo refl low
+below_block : (raw_box : RawBox) (recs : List Record) → IsBlock recs → meets_lo raw_box.lo (last_key [] recs) ≡ false → AllByRecursion (IsOut raw_box) recs
+below_block raw_box recs h low = by raw_box.lo refl low
   where
-    by : (lo : Option Cut) → area.lo ≡ lo → meets_lo lo (last_key [] recs) ≡ false → AllByRecursion (IsOut area) recs
+    by : (lo : Option Cut) → raw_box.lo ≡ lo → meets_lo lo (last_key [] recs) ≡ false → AllByRecursion (IsOut raw_box) recs
     by None e l = absurd cc
-    by (Some cut) e l = each_out area (λ r. is_below cut r.key ≡ true) (λ r b. out_low area cut r e b) recs (all_below cut [] recs h.rising (long_keys recs h) (not_is_true (is_below cut (last_key [] recs)) l))
+    by (Some cut) e l = each_out raw_box (λ r. is_below cut r.key ≡ true) (λ r b. out_low raw_box cut r e b) recs (all_below cut [] recs h.rising (long_keys recs h) (not_is_true (is_below cut (last_key [] recs)) l))
 
-above_block : (area : RawBox) (recs : List Record) → IsBlock recs → meets_hi area.hi (first_key recs) ≡ false → AllByRecursion (IsOut area) recs
-above_block area recs h high = by area.hi refl recs h high
+above_block : (raw_box : RawBox) (recs : List Record) → IsBlock recs → meets_hi raw_box.hi (first_key recs) ≡ false → AllByRecursion (IsOut raw_box) recs
+above_block raw_box recs h high = by raw_box.hi refl recs h high
   where
-    by : (hi : Option Cut) → area.hi ≡ hi → (rs : List Record) → IsBlock rs → meets_hi hi (first_key rs) ≡ false → AllByRecursion (IsOut area) rs
+    by : (hi : Option Cut) → raw_box.hi ≡ hi → (rs : List Record) → IsBlock rs → meets_hi hi (first_key rs) ≡ false → AllByRecursion (IsOut raw_box) rs
     by None e rs k l = absurd cc
     by (Some cut) e [] k l = tt
     by (Some cut) e (r ∷ rs) k l =
-        each_out area (λ x. is_below cut x.key ≡ false) (λ x b. out_high area cut x e b) (r ∷ rs) (l, none_below cut r.key rs (omega (arith, k.lawful.0.long_enough)) k.rising.1 (long_keys (r ∷ rs) k).1 l)
+        each_out raw_box (λ x. is_below cut x.key ≡ false) (λ x b. out_high raw_box cut x e b) (r ∷ rs) (l, none_below cut r.key rs (omega (arith, k.lawful.0.long_enough)) k.rising.1 (long_keys (r ∷ rs) k).1 l)
 
 -- a block and its entry
 record EntryOf (es : List Entry) (i : ℕ) (recs : List Record) : Type 0 where
@@ -218,18 +218,18 @@ entry_of_block begin (b ∷ blocks) (suc i) recs each q =
     let rest = entry_of_block (begin + length (spelling b)) blocks i recs each.1 q in
     record { entry = rest.entry; there = rest.there; first = rest.first; last = rest.last; block = rest.block }
 
-pub outside : (t : Loaded) (area : RawBox) (from to i : ℕ) (recs : List Record) → IsTold t → IsPartitionPoint (λ e. not (meets_lo area.lo e.last) ≡ true) (λ e. not (meets_lo area.lo e.last) ≡ false) t.index from → IsPartitionPoint (λ e. meets_hi area.hi e.first ≡ true) (λ e. meets_hi area.hi e.first ≡ false) t.index to → slice_get (blocks_in t) i ≡ Some recs → ((i < min from to) ⊎ (to ≤ i)) → All (λ r. in_box area r ≡ false) recs
-outside t area from to i recs h low high q out =
+pub outside : (t : Loaded) (raw_box : RawBox) (from to i : ℕ) (recs : List Record) → IsTold t → IsPartitionPoint (λ e. not (meets_lo raw_box.lo e.last) ≡ true) (λ e. not (meets_lo raw_box.lo e.last) ≡ false) t.index from → IsPartitionPoint (λ e. meets_hi raw_box.hi e.first ≡ true) (λ e. meets_hi raw_box.hi e.first ≡ false) t.index to → slice_get (blocks_in t) i ≡ Some recs → ((i < min from to) ⊎ (to ≤ i)) → All (λ r. in_box raw_box r ≡ false) recs
+outside t raw_box from to i recs h low high q out =
     let e = entry_of_block 8 (blocks_in t) i recs h.tablet.each q in
     let there : slice_get t.index i ≡ Some e.entry = ap (λ (es : List Entry). slice_get es i) h.index_is ∙ e.there in
     let lt = slice_get_within t.index i e.entry there in
     let here : get_or t.index i e.entry ≡ e.entry = get_or_from_slice_get t.index i e.entry e.entry there in
-    every (IsOut area) recs (elim out [
+    every (IsOut raw_box) recs (elim out [
       | inl below ↦
-          below_block area recs e.block (ap (meets_lo area.lo) (sym e.last)
-          ∙ not_is_false (meets_lo area.lo e.entry.last) (ap (λ (x : Entry). not (meets_lo area.lo x.last)) (sym here) ∙ low.0 i e.entry (omega arith) (omega (arith, below))))
+          below_block raw_box recs e.block (ap (meets_lo raw_box.lo) (sym e.last)
+          ∙ not_is_false (meets_lo raw_box.lo e.entry.last) (ap (λ (x : Entry). not (meets_lo raw_box.lo x.last)) (sym here) ∙ low.0 i e.entry (omega arith) (omega (arith, below))))
       | inr above ↦
-          above_block area recs e.block (ap (meets_hi area.hi) (sym e.first) ∙ (ap (λ (x : Entry). meets_hi area.hi x.first) (sym here) ∙ high.1 i e.entry above lt))
+          above_block raw_box recs e.block (ap (meets_hi raw_box.hi) (sym e.first) ∙ (ap (λ (x : Entry). meets_hi raw_box.hi x.first) (sym here) ∙ high.1 i e.entry above lt))
     ])
 
 -- ---- no timestamp of the tablet is one of the box's
@@ -239,16 +239,16 @@ within_block t [] i recs h q = absurd cc
 within_block t (b ∷ blocks) zero recs h q = let same : b ≡ recs = cc in subst (AllByRecursion (Within t)) same (all_split (Within t) b (joined blocks) h).0
 within_block t (b ∷ blocks) (suc i) recs h q = within_block t blocks i recs (all_split (Within t) b (joined blocks) h).1 q
 
-out_time : (area : RawBox) (t : Totals) (r : Record) → ((t.high < area.from) ⊎ (area.to < t.low)) → Within t r → IsOut area r
-out_time area t r far h =
+out_time : (raw_box : RawBox) (t : Totals) (r : Record) → ((t.high < raw_box.from) ⊎ (raw_box.to < t.low)) → Within t r → IsOut raw_box r
+out_time raw_box t r far h =
     let both = and_parts (leb t.low r.ts) (leb r.ts t.high) h.timed in
     let low = leb-true _ _ both.0 in
     let high = leb-true _ _ both.1 in
-    let times : (leb area.from r.ts && leb r.ts area.to) ≡ false = elim far [
-      | inl late ↦ ap (λ (b : Bool). b && leb r.ts area.to) (not_leb area.from r.ts (omega (arith, late, high)))
-      | inr early ↦ ap (λ (b : Bool). leb area.from r.ts && b) (not_leb r.ts area.to (omega (arith, early, low))) ∙ and_no (leb area.from r.ts)
+    let times : (leb raw_box.from r.ts && leb r.ts raw_box.to) ≡ false = elim far [
+      | inl late ↦ ap (λ (b : Bool). b && leb r.ts raw_box.to) (not_leb raw_box.from r.ts (omega (arith, late, high)))
+      | inr early ↦ ap (λ (b : Bool). leb raw_box.from r.ts && b) (not_leb r.ts raw_box.to (omega (arith, early, low))) ∙ and_no (leb raw_box.from r.ts)
     ] in
-    ap (λ (b : Bool). (meets_lo area.lo r.key && meets_hi area.hi r.key) && b) times ∙ and_no (meets_lo area.lo r.key && meets_hi area.hi r.key)
+    ap (λ (b : Bool). (meets_lo raw_box.lo r.key && meets_hi raw_box.hi r.key) && b) times ∙ and_no (meets_lo raw_box.lo r.key && meets_hi raw_box.hi r.key)
   where
     and_no : (b : Bool) → (b && false) ≡ false
     and_no true = refl
@@ -257,7 +257,7 @@ out_time area t r far h =
     not_leb : (x y : ℕ) → y < x → leb x y ≡ false
     not_leb x y lt = elim (cases_Bool (leb x y)) [ inl t ↦ absurd (omega (arith, lt, leb-true x y t)) | inr f ↦ f ]
 
-pub outside_times : (t : Loaded) (area : RawBox) (i : ℕ) (recs : List Record) → IsTold t → ((t.listed.high < area.from) ⊎ (area.to < t.listed.low)) → slice_get (blocks_in t) i ≡ Some recs → All (λ r. in_box area r ≡ false) recs
-outside_times t area i recs h far q =
+pub outside_times : (t : Loaded) (raw_box : RawBox) (i : ℕ) (recs : List Record) → IsTold t → ((t.listed.high < raw_box.from) ⊎ (raw_box.to < t.listed.low)) → slice_get (blocks_in t) i ≡ Some recs → All (λ r. in_box raw_box r ≡ false) recs
+outside_times t raw_box i recs h far q =
     let all : AllByRecursion (Within (listed_totals t.listed)) (joined (blocks_in t)) = subst (λ (s : Totals). AllByRecursion (Within s) (joined (blocks_in t))) h.totals (all_within (joined (blocks_in t))) in
-    every (IsOut area) recs (each_out area (Within (listed_totals t.listed)) (λ r w. out_time area (listed_totals t.listed) r far w) recs (within_block (listed_totals t.listed) (blocks_in t) i recs all q))
+    every (IsOut raw_box) recs (each_out raw_box (Within (listed_totals t.listed)) (λ r w. out_time raw_box (listed_totals t.listed) r far w) recs (within_block (listed_totals t.listed) (blocks_in t) i recs all q))

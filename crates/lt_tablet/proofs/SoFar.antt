@@ -6,7 +6,7 @@ use Rattle.std.proofs.lemmas.Bool.{cases_lt}
 use Rattle.std.proofs.lemmas.List.{append-nil, length-append, drop-drop, at_drop_all}
 use Rattle.lt_rec.specs.Record.{Record}
 use Rattle.lt_rec.specs.Records.{joined}
-use Rattle.lt_block.specs.Reading.{◌>>=◌}
+use Rattle.lt_rec.specs.Reading.{◌>>=◌}
 use Rattle.lt_tablet.specs.declared.errors.ReadError.{ReadError}
 use Rattle.lt_layout.specs.Spelling.{Entry, Totals, end_of, hashes_from}
 use Rattle.lt_layout.specs.Entries.{IsEntries}
@@ -68,8 +68,8 @@ so_far_start honest t bytes es h = record {
   last = [];
   entries = h;
   ends = refl;
-  known = λ told i ge lt. absurd (omega (arith, ge, lt));
-  read = λ told. with_none (blocks_at t es (drop 8 bytes));
+  known = λ is_honest i ge lt. absurd (omega (arith, ge, lt));
+  read = λ is_honest. with_none (blocks_at t es (drop 8 bytes));
 }
 
 -- the entries that are left, by their place
@@ -110,24 +110,24 @@ so_far_next honest t bytes es e rest before old new h own last found read known 
   last = e.last;
   entries = h.entries.1;
   ends = h.ends;
-  known = λ told i ge lt.
+  known = λ is_honest i ge lt.
       elim (cases_lt i h.begin) [
-        | inl below ↦ h.known told i ge below
-        | inr from ↦ known told i (omega (arith, from, h.entries.0.placed)) (omega (arith, lt, h.entries.0.placed))
+        | inl below ↦ h.known is_honest i ge below
+        | inr from ↦ known is_honest i (omega (arith, from, h.entries.0.placed)) (omega (arith, lt, h.entries.0.placed))
       ];
-  read = λ told.
+  read = λ is_honest.
       let one : with_blocks h.blocks (blocks_at t (e ∷ rest) (drop h.begin bytes)) ≡ with_blocks h.blocks (behind own (blocks_at t rest (drop (h.begin + e.len) bytes))) =
       ap (with_blocks h.blocks) (blocks_from t e rest h.begin bytes h.entries.0.placed
-      ∙ ap (λ (q : Result (List Record) ℕ). moved e.offset q >>= λ x. behind x (blocks_at t rest (drop (h.begin + e.len) bytes))) (read told)) in
-      sym (regroup h.blocks own (blocks_at t rest (drop (h.begin + e.len) bytes))) ∙ (sym one ∙ h.read told);
+      ∙ ap (λ (q : Result (List Record) ℕ). moved e.offset q >>= λ x. behind x (blocks_at t rest (drop (h.begin + e.len) bytes))) (read is_honest)) in
+      sym (regroup h.blocks own (blocks_at t rest (drop (h.begin + e.len) bytes))) ∙ (sym one ∙ h.read is_honest);
 }
 
 abbrev finding : List (List Record) → Result Found ℕ
 finding blocks = Ok (found_in (joined blocks))
 
 pub so_far_stop : (honest : Bool) (t : Totals) (bytes : List ℕ) (es : List Entry) (e : Entry) (rest : List Entry) (before : Option (List ℕ)) (found : Found) (why : ReadError) → SoFar honest t bytes es (e ∷ rest) before found → honest ≡ true → Refuses why (moved e.offset (own_part t e bytes)) → Refuses why (surveyed t es bytes)
-so_far_stop honest t bytes es e rest before found why h told refused =
-    refuse_same why (surveyed t es bytes) (with_blocks h.blocks (blocks_at t (e ∷ rest) (drop h.begin bytes)) >>= finding) (ap (λ (q : Result (List (List Record)) ℕ). q >>= finding) (sym (h.read told)))
+so_far_stop honest t bytes es e rest before found why h is_honest refused =
+    refuse_same why (surveyed t es bytes) (with_blocks h.blocks (blocks_at t (e ∷ rest) (drop h.begin bytes)) >>= finding) (ap (λ (q : Result (List (List Record)) ℕ). q >>= finding) (sym (h.read is_honest)))
     (refuse_first why (with_blocks h.blocks (blocks_at t (e ∷ rest) (drop h.begin bytes))) finding
     (refuse_first why (blocks_at t (e ∷ rest) (drop h.begin bytes)) (λ x. Ok (h.blocks ++ x))
     (refuse_same why (blocks_at t (e ∷ rest) (drop h.begin bytes)) (moved e.offset (own_part t e bytes) >>= λ own. behind own (blocks_at t rest (drop (h.begin + e.len) bytes))) (blocks_from t e rest h.begin bytes h.entries.0.placed)
@@ -141,9 +141,9 @@ pub record SoFarAll (honest : Bool) (t : Totals) (bytes : List ℕ) (es : List E
 all_done : (honest : Bool) (t : Totals) (bytes : List ℕ) (es : List Entry) (before : Option (List ℕ)) (found : Found) → SoFar honest t bytes es [] before found → 0 < length es → SoFarAll honest t bytes es found
 unfolding blocks_at
 all_done honest t bytes es before found h some = record {
-  read = λ told. ap (λ (q : Result (List (List Record)) ℕ). q >>= finding) (sym (h.read told)) ∙ (ap (λ (xs : List (List Record)). finding xs) (append-nil h.blocks) ∙ ap (λ (f : Found). Ok f) (sym h.found_is));
+  read = λ is_honest. ap (λ (q : Result (List (List Record)) ℕ). q >>= finding) (sym (h.read is_honest)) ∙ (ap (λ (xs : List (List Record)). finding xs) (append-nil h.blocks) ∙ ap (λ (f : Found). Ok f) (sym h.found_is));
   some = subst (λ (f : Found). 0 < length f.hashes) (sym h.found_is) (some_hash (joined h.blocks) (h.some (omega (arith, some))));
-  known = λ told i ge lt. h.known told i ge (omega (arith, lt, h.ends));
+  known = λ is_honest i ge lt. h.known is_honest i ge (omega (arith, lt, h.ends));
 }
 
 pub so_far_done : (honest : Bool) (t : Totals) (bytes : List ℕ) (es : List Entry) (i : ℕ) (before : Option (List ℕ)) (found : Found) → SoFar honest t bytes es (drop i es) before found → length es ≤ i → 0 < length es → SoFarAll honest t bytes es found

@@ -2,9 +2,9 @@
 use Rattle.std.specs.Prelude.{◌≡◌, ℕ, ◌+◌, Result, Ok, Err}
 use Rattle.lt_io.specs.declared.device_error.DeviceError.{DeviceError}
 use Rattle.lt_io.specs.declared.device_error.DeviceError.TheVariants.{Failed, NoMemory}
-use Rattle.lt_block.specs.declared.fault.Fault.{Fault}
-use Rattle.lt_block.specs.declared.fault.BlockError.{BlockError}
-use Rattle.lt_block.specs.declared.fault.BlockError.TheVariants as block_errors
+use Rattle.lt_rec.specs.declared.fault.Fault.{Fault}
+use Rattle.lt_rec.specs.declared.fault.FormatError.{FormatError}
+use Rattle.lt_rec.specs.declared.fault.FormatError.TheVariants as block_errors
 use Rattle.lt_tablet.specs.declared.errors.ReadError.{ReadError}
 use Rattle.lt_tablet.specs.declared.errors.ReadError.TheVariants as read_errors
 use Rattle.lt_tablet.specs.declared.errors.WriteError.{WriteError}
@@ -36,13 +36,13 @@ abbrev pub named : {A : Type 0} → ℕ → Result A Fault → Result A ReadErro
 named file (Ok x) = Ok x
 named file (Err fault) = Err (read_errors.Bad file fault.at)
 
-abbrev pub named_block : {A : Type 0} → ℕ → Result A BlockError → Result A ReadError
+abbrev pub named_block : {A : Type 0} → ℕ → Result A FormatError → Result A ReadError
 named_block file (Ok x) = Ok x
 named_block file (Err (block_errors.Bad at)) = Err (read_errors.Bad file at)
 named_block file (Err block_errors.NoMemory) = Err read_errors.NoMemory
 
 -- the fault of a block that begins at `start`
-abbrev pub in_block : (file start : ℕ) → BlockError → ReadError
+abbrev pub in_block : (file start : ℕ) → FormatError → ReadError
 in_block file start (block_errors.Bad at) = read_errors.Bad file (start + at)
 in_block file start block_errors.NoMemory = read_errors.NoMemory
 

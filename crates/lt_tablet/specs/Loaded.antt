@@ -37,26 +37,26 @@ pub record IsTold (t : Loaded) : Type 0 where
 
 -- What holds of each tablet: it has a block, its blocks lie one after the other in the file, and keys rise from each to
 -- the next. Where the device tells the bytes, they are its file.
-pub record IsLoaded (told : Bool) (number size : ℕ) (t : Loaded) : Type 0 where
+pub record IsLoaded (honest : Bool) (number size : ℕ) (t : Loaded) : Type 0 where
   pub number_is : number ≡ t.listed.file
   pub size_is : size ≡ t.listed.bytes
   pub in_range : size < 2 ^ 64
   pub some : 0 < length t.index
   pub entries : IsEntries (end_of 8 t.index) 8 [] t.index
   pub within : end_of 8 t.index ≤ size
-  pub file : told ≡ true → IsTold t
+  pub file : honest ≡ true → IsTold t
 
 -- some timestamp from the least to the greatest one may be one of the box's
 abbrev pub times_meet : RawBox → Listed → Bool
-times_meet area listed = nat_le area.from listed.high && nat_le listed.low area.to
+times_meet raw_box listed = nat_le raw_box.from listed.high && nat_le listed.low raw_box.to
 
 -- the block's last key isn't below the lower bound, and its first one is below the upper
 abbrev pub may_have : RawBox → Entry → Bool
-may_have area e = meets_lo area.lo e.last && meets_hi area.hi e.first
+may_have raw_box e = meets_lo raw_box.lo e.last && meets_hi raw_box.hi e.first
 
 -- From one block up to another: where some timestamp may be one of the box's, exactly the blocks that may have its
 -- records, else none.
-pub record IsIndexRange (t : Loaded) (area : RawBox) (from to : ℕ) : Type 0 where
+pub record IsIndexRange (t : Loaded) (raw_box : RawBox) (from to : ℕ) : Type 0 where
   pub ordered : from ≤ to
   pub within : to ≤ length t.index
-  pub exactly : (i : ℕ) (e : Entry) → slice_get t.index i ≡ Some e → ((from ≤ i) × (i < to)) ↔ IsTrue (times_meet area t.listed && may_have area e)
+  pub exactly : (i : ℕ) (e : Entry) → slice_get t.index i ≡ Some e → ((from ≤ i) × (i < to)) ↔ IsTrue (times_meet raw_box t.listed && may_have raw_box e)

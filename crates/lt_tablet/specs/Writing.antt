@@ -26,7 +26,7 @@ pub record Writing : Type 0 where
   pub bytes : List ℕ
 
 -- these blocks went out, and the records of one more fill
-pub record IsCut (told : Bool) (w : Writing) (blocks : List (List Record)) (recs : List Record) : Type 0 where
+pub record IsCut (honest : Bool) (w : Writing) (blocks : List (List Record)) (recs : List Record) : Type 0 where
   pub pen_is : w.pen ≡ w.number
   pub parts : recs ≡ joined blocks ++ w.filling
   pub each : AllByRecursion IsBlock blocks
@@ -38,7 +38,7 @@ pub record IsCut (told : Bool) (w : Writing) (blocks : List (List Record)) (recs
   pub found_is : w.found ≡ found_in recs
   pub first_is : 0 < length w.filling → w.first ≡ first_key w.filling
   pub last_is : w.last ≡ last_key [] recs
-  pub bytes_are : told ≡ true → w.bytes ≡ header ++ blocks_spelled blocks
+  pub bytes_are : honest ≡ true → w.bytes ≡ header ++ blocks_spelled blocks
 
 -- what stays where a record is put
 pub record Keeps (old new : Writing) : Type 0 where
@@ -50,10 +50,10 @@ pub record Keeps (old new : Writing) : Type 0 where
   pub bytes : new.bytes ≡ old.bytes
 
 -- these records were written, and the block that fills has one more
-pub record Filled (told : Bool) (new : Writing) (recs : List Record) (r : Record) : Type 0 where
+pub record Filled (honest : Bool) (new : Writing) (recs : List Record) (r : Record) : Type 0 where
   pub blocks : List (List Record)
   pub old : Writing
-  pub cut : IsCut told old blocks recs
+  pub cut : IsCut honest old blocks recs
   pub keeps : Keeps old new
   pub filling : new.filling ≡ old.filling ++ r ∷ []
   pub found : new.found ≡ old.found
@@ -61,9 +61,9 @@ pub record Filled (told : Bool) (new : Writing) (recs : List Record) (r : Record
   pub last : new.last ≡ old.last
 
 -- these records were written so far
-pub record Wrote (told : Bool) (w : Writing) (recs : List Record) : Type 0 where
+pub record Wrote (honest : Bool) (w : Writing) (recs : List Record) : Type 0 where
   pub blocks : List (List Record)
-  pub cut : IsCut told w blocks recs
+  pub cut : IsCut honest w blocks recs
   pub fills : 0 < length recs → 0 < length w.filling
 
 -- a listing names its tablet's file, and a period that has the least and the greatest timestamp
@@ -74,6 +74,6 @@ pub record IsListing (listed : Listed) (number : ℕ) (period : Stretch) : Type 
   pub high_is : InPeriod period listed.high
 
 -- the tablet's file has these records, and its listing tells their totals
-pub record HasRecords (told : Bool) (t : Loaded) (recs : List Record) : Type 0 where
+pub record HasRecords (honest : Bool) (t : Loaded) (recs : List Record) : Type 0 where
   pub totals : listed_totals t.listed ≡ totals_of recs
-  pub file : told ≡ true → records_in t ≡ recs
+  pub file : honest ≡ true → records_in t ≡ recs

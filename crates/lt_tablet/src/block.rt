@@ -1,7 +1,7 @@
 //! One block of a tablet, read and checked again.
 ghost use Rattle.std.specs.Prelude.{◌≡◌, ◌≤◌, ◌<◌, ◌+◌, ◌^◌, true, length, take, drop, IfErr, IsErrOf};
 ghost use Rattle.lt_io.specs.Device.{Counts};
-ghost use Rattle.lt_block.specs.Reading.{Gives};
+ghost use Rattle.lt_rec.specs.Reading.{Gives};
 ghost use Rattle.lt_layout.specs.Reading.{own_block_at, moved};
 ghost use Rattle.lt_layout.specs.Surveying.{IsWithin};
 ghost use Rattle.lt_layout.specs.Spelling.{listed_totals};
@@ -10,10 +10,10 @@ ghost use Rattle.lt_tablet.specs.Causes.{IsOfFile, Loads};
 use crate::errors::ReadError;
 use crate::loading::{in_block, read};
 use bytes::Bytes;
-use lt_block::{Block, BlockError};
+use lt_block::Block;
 use lt_io::Device;
 use lt_layout::{IndexEntry, Totals, check_block};
-use lt_rec::Listed;
+use lt_rec::{FormatError, Listed};
 use std::alloc::Global;
 
 /// The block that the bytes are, which has to be the entry's.
@@ -22,7 +22,7 @@ fn block_of(
     totals: &Totals,
     entry: &IndexEntry,
     bytes: Bytes,
-) -> Result<Block, BlockError>
+) -> Result<Block, FormatError>
     requires short { length bytes ≤ 65536 }
     requires some { 0 < entry.now.count }
     ensures exact { Gives (λ block. block) result (own_block_at totals.now entry.now bytes) }

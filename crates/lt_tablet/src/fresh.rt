@@ -35,7 +35,7 @@ impl<V: Device> Fresh<V> {
     pub(crate) fn new(tablet: Arc<Tablet<V>>, listed: Listed) -> Fresh<V>
         requires same { listed ≡ (arc_value tablet).listed }
         requires listing { IsListing listed listed.file listed.period }
-        requires told { V.honest ≡ true → IsTold (arc_value tablet) }
+        requires honest { V.honest ≡ true → IsTold (arc_value tablet) }
         ensures { result ≡ arc_value tablet }
     {
         Fresh { tablet, listed }
@@ -50,7 +50,7 @@ impl<V: Device> Fresh<V> {
     pub fn listed(&self) -> &Listed
         ensures same { result.now ≡ self.now.listed }
         ensures listing { IsListing result.now self.now.listed.file self.now.listed.period }
-        ensures told { V.honest ≡ true → listed_totals result.now ≡ totals_of (records_in self.now) }
+        ensures honest { V.honest ≡ true → listed_totals result.now ≡ totals_of (records_in self.now) }
     {
         &self.listed
     }

@@ -13,14 +13,13 @@ ghost use Rattle.lt_tablet.specs.Causes.{IsNoBad, IsOfFile, Refuses, Loads, name
 use crate::errors::ReadError;
 use crate::tablet::Tablet;
 use bytes::Bytes;
-use lt_block::{BlockError, Fault};
 use lt_bloom::Filter;
 use lt_io::Device;
 use lt_layout::{
     FOOTER_LEN, IndexEntry, Parts, Survey, Totals, check_filter, check_header, check_totals,
     footer_of, footer_place, index_of, survey_block,
 };
-use lt_rec::Listed;
+use lt_rec::{Fault, FormatError, Listed};
 use std::alloc::Global;
 
 /// A fault as an answer: it names the file.
@@ -34,13 +33,13 @@ fn named<T>(file: u64, checked: Result<T, Fault>) -> Result<T, ReadError>
 }
 
 /// The same, for what takes memory.
-pub fn named_block<T>(file: u64, checked: Result<T, BlockError>) -> Result<T, ReadError>
+pub fn named_block<T>(file: u64, checked: Result<T, FormatError>) -> Result<T, ReadError>
     ensures { result ≡ named_block file checked }
 {
     match checked {
         Ok(value) => Ok(value),
-        Err(BlockError::Bad { at }) => Err(ReadError::Bad { file, at }),
-        Err(BlockError::NoMemory) => Err(ReadError::NoMemory),
+        Err(FormatError::Bad { at }) => Err(ReadError::Bad { file, at }),
+        Err(FormatError::NoMemory) => Err(ReadError::NoMemory),
     }
 }
 
@@ -145,17 +144,17 @@ fn read_index<V: Device>(
 }
 
 /// A fault in a block that begins at an offset of the file, as an answer.
-pub fn in_block(file: u64, start: u64, why: BlockError) -> ReadError
+pub fn in_block(file: u64, start: u64, why: FormatError) -> ReadError
     requires within { IsWithin (2 ^ 64 - 1 - start) why }
     requires in_range { start < 2 ^ 64 }
     ensures { result ≡ in_block file start why }
 {
     match why {
-        BlockError::Bad { at } => ReadError::Bad {
+        FormatError::Bad { at } => ReadError::Bad {
             file,
             at: start + at,
         },
-        BlockError::NoMemory => ReadError::NoMemory,
+        FormatError::NoMemory => ReadError::NoMemory,
     }
 }
 

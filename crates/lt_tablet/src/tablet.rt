@@ -63,7 +63,7 @@ impl<V: Device> Tablet<V> {
         // Its blocks lie one after the other, and keys rise from each to the next.
         ensures entries { IsEntries (end_of 8 self.now.index) 8 [] self.now.index }
         // Where the device tells its file's bytes, they are a file of these blocks.
-        ensures told { V.honest ≡ true → IsTold self.now }
+        ensures honest { V.honest ≡ true → IsTold self.now }
     {
         self.index.as_slice().len() as u64
     }
@@ -78,7 +78,7 @@ impl<V: Device> Tablet<V> {
     /// The filter over its stems. Takes no memory.
     pub fn filter(&self) -> &Filter
         ensures value { result.now ≡ self.now.filter }
-        ensures told { V.honest ≡ true → result.now ≡ filter_of (records_in self.now) }
+        ensures honest { V.honest ≡ true → result.now ≡ filter_of (records_in self.now) }
     {
         &self.filter
     }
@@ -113,17 +113,17 @@ impl<V: Device> Tablet<V> {
 
     /// The blocks, from one up to another, that may have records of the box: those whose last key isn't below its lower
     /// bound and whose first key is below its upper one. None where no timestamp of the tablet is one of the box's. Takes no memory.
-    pub fn index_range(&self, area: &RawBox) -> (u64, u64)
-        ensures exact { IsIndexRange self.now area.now result.0 result.1 }
+    pub fn index_range(&self, raw_box: &RawBox) -> (u64, u64)
+        ensures exact { IsIndexRange self.now raw_box.now result.0 result.1 }
         // No block outside it has a record of the box.
-        ensures outside { V.honest ≡ true → (i : ℕ) (recs : List Record) → slice_get (blocks_in self.now) i ≡ Some recs → ((i < result.0) ⊎ (result.1 ≤ i)) → All (λ r. in_box area.now r ≡ false) recs }
+        ensures outside { V.honest ≡ true → (i : ℕ) (recs : List Record) → slice_get (blocks_in self.now) i ≡ Some recs → ((i < result.0) ⊎ (result.1 ≤ i)) → All (λ r. in_box raw_box.now r ≡ false) recs }
     {
-        if self.listed.high < area.from || area.to < self.listed.low {
+        if self.listed.high < raw_box.from || raw_box.to < self.listed.low {
             return (0, 0);
         }
         let index = self.index.as_slice();
-        let from = index.partition_point(|entry| !area.meets_lo(entry.last.as_slice()));
-        let to = index.partition_point(|entry| area.meets_hi(entry.first.as_slice()));
+        let from = index.partition_point(|entry| !raw_box.meets_lo(entry.last.as_slice()));
+        let to = index.partition_point(|entry| raw_box.meets_hi(entry.first.as_slice()));
         (from.min(to) as u64, to as u64)
     }
 }

@@ -1,36 +1,28 @@
 // What is found in a directory: descriptors, and the last numbers of rows and files.
-use super::{CREATE, SCHEMA, SESSION, begun, run_over};
+use super::{CREATE, SCHEMA, SESSION, begun, run_over, same, written};
 use lt_desc::{Stone, Tablets, encode};
+use lt_json::schema_from_json;
 use lt_memdev::MemDir;
 use lt_rec::Octets;
-use lt_schema::{Schema, Schemas};
+use lt_schema::Schemas;
 use lt_serve::Status;
 use std::alloc::Global;
 use std::test::Fail;
 
 #[test]
 fn a_session_keeps_its_schema(rt: HostRuntime) -> Result<(), Fail> {
-    let first = begun(
-        rt.alloc(),
-        &CREATE,
-        "a: insert \"x\" 1 5 10\na: alter append up int64 3",
-    )?;
-    let next = run_over(
-        rt.alloc(),
-        first.dir,
-        &[],
-        &SESSION,
-        b"a: insert \"x\" 1 5 10 7\na: scan",
-    )?;
+    let change = "a: insert \"x\" 1 5 10\na: alter append up int64 3";
+    let dir = begun(rt.alloc(), &CREATE, change)?.dir;
+    let next = written(rt.alloc(), dir, "a: insert \"x\" 1 5 10 7\na: scan")?;
     let text =
         "client a\nok 0\nrows 1 all place 1 since 0\nrow \"x\" 1 5 10 7\nend next 1 kept 0\n";
-    assert_eq!(rt; next.text.as_slice(), text.as_bytes());
+    same(&rt, next.as_slice(), text, "a column that was appended");
     Ok(())
 }
 
 /// A descriptor of the schema with a time to live.
 fn descriptor(alloc: Global) -> Result<Vec<u8>, Fail> {
-    let Ok(schema) = Schema::from_json(alloc, SCHEMA.as_bytes()) else {
+    let Ok(schema) = schema_from_json(alloc, SCHEMA.as_bytes()) else {
         return Err("no schema".into());
     };
     let schemas = Schemas::of(alloc, schema)?;
@@ -46,10 +38,9 @@ fn a_byte_too_many_is_named(rt: HostRuntime) -> Result<(), Fail> {
     bytes.push(0)?;
     let dir = MemDir::with(rt.alloc(), &[], Some(Octets::from_vec(bytes)))?;
     let ran = run_over(rt.alloc(), dir, &[], &SESSION, b"")?;
-    assert_eq!(rt; ran.status.code(), 9);
     assert_eq!(rt;
-        ran.text.as_slice(),
-        "error: bad descriptor at 114\n".as_bytes()
+        (ran.status.code(), ran.text.as_slice()),
+        (9, b"error: bad descriptor at 114\n".as_slice())
     );
     Ok(())
 }
@@ -65,9 +56,9 @@ const ONE_TABLET: [u8; 76] = [
 ];
 
 /// A directory without files, whose descriptor is that of a table of one column `ts` without a time to live.
-fn described(alloc: Global, upto: u64, next_file: u64, tablets: &[u8]) -> Result<MemDir, Fail> {
+fn described(alloc: Global, kept: u64, next_file: u64, tablets: &[u8]) -> Result<MemDir, Fail> {
     let mut text = Vec::from_slice(alloc, b"LTDESCR1")?;
-    text.extend_from_slice(&upto.to_be_bytes())?;
+    text.extend_from_slice(&kept.to_be_bytes())?;
     text.extend_from_slice(&[0; 9])?;
     text.extend_from_slice(&next_file.to_be_bytes())?;
     text.extend_from_slice(&[0, 0, 0, 1, 0, 0, 0, 1, 0, 0, 0, 2, 116, 115, 2])?;
@@ -80,18 +71,14 @@ fn described(alloc: Global, upto: u64, next_file: u64, tablets: &[u8]) -> Result
 fn a_table_with_rows_in_files_is_not_opened(rt: HostRuntime) -> Result<(), Fail> {
     for input in ["", "# remark", "\na: scan\nb: scan", "a: scan\na: flush"] {
         let dir = described(rt.alloc(), 1, 2, &ONE_TABLET)?;
-        let ran = run_over(rt.alloc(), dir, &[], &SESSION, input.as_bytes())?;
-        assert_eq!(rt;
-            ran.text.as_slice(),
-            "error: not yet at line 0\n".as_bytes(),
-            "the input {input:?}"
-        );
+        let text = written(rt.alloc(), dir, input)?;
+        same(&rt, text.as_slice(), "error: not yet at line 0\n", input);
     }
     Ok(())
 }
 
 /// The number below which all is durable, the next file's number, and a session's lines with what it writes.
-const LAST_NUMBERS: [(u64, u64, &str, &str); 4] = [
+static LAST_NUMBERS: [(u64, u64, &str, &str); 4] = [
     (
         4611686018427387903,
         1,
@@ -120,30 +107,41 @@ const LAST_NUMBERS: [(u64, u64, &str, &str); 4] = [
 
 #[test]
 fn the_last_numbers_and_none_after_them(rt: HostRuntime) -> Result<(), Fail> {
-    for (upto, next_file, input, text) in LAST_NUMBERS {
-        let dir = described(rt.alloc(), upto, next_file, &NO_TABLET)?;
-        let ran = run_over(rt.alloc(), dir, &[], &SESSION, input.as_bytes())?;
-        assert_eq!(rt;
-            ran.text.as_slice(),
-            text.as_bytes(),
-            "upto {upto}, next file {next_file}"
-        );
+    for (kept, next_file, input, text) in LAST_NUMBERS.iter() {
+        let dir = described(rt.alloc(), *kept, *next_file, &NO_TABLET)?;
+        let found = written(rt.alloc(), dir, *input)?;
+        same(&rt, found.as_slice(), *text, *input);
     }
     Ok(())
 }
 
+/// A directory with a file of the last number.
+fn strayed(alloc: Global, descriptor: Option<Octets>) -> Result<MemDir, Fail> {
+    let files = [(4611686018427387903, Octets::from_slice(alloc, b"?")?)];
+    Ok(MemDir::with(alloc, files.as_slice(), descriptor)?)
+}
+
 #[test]
-fn a_stray_file_has_the_last_number(rt: HostRuntime) -> Result<(), Fail> {
-    let files = [(4611686018427387903, Octets::from_slice(rt.alloc(), b"?")?)];
-    let dir = MemDir::with(rt.alloc(), files.as_slice(), None)?;
-    let made = run_over(rt.alloc(), dir, &[], &CREATE, b"")?;
-    assert_eq!(rt; made.status, Status::Spent);
-    assert_eq!(rt; made.text.as_slice(), "error: spent\n".as_bytes());
+fn no_table_is_made_beside_a_file_of_the_last_number(rt: HostRuntime) -> Result<(), Fail> {
+    let made = run_over(rt.alloc(), strayed(rt.alloc(), None)?, &[], &CREATE, b"")?;
+    assert_eq!(rt;
+        (made.status, made.text.as_slice()),
+        (Status::Spent, b"error: spent\n".as_slice())
+    );
+    Ok(())
+}
+
+#[test]
+fn a_table_beside_a_file_of_the_last_number_takes_rows_alone(rt: HostRuntime) -> Result<(), Fail> {
     let bytes = Octets::from_vec(descriptor(rt.alloc())?);
-    let dir = MemDir::with(rt.alloc(), files.as_slice(), Some(bytes))?;
-    let input = b"a: alter widen dev\na: insert \"x\" 1 1500000000000000 10";
-    let ran = run_over(rt.alloc(), dir, &[], &SESSION, input)?;
-    let text = "client a\nspent\nok 0\nend next 1 kept 0\n";
-    assert_eq!(rt; ran.text.as_slice(), text.as_bytes());
+    let dir = strayed(rt.alloc(), Some(bytes))?;
+    let input = "a: alter widen dev\na: insert \"x\" 1 1500000000000000 10";
+    let found = written(rt.alloc(), dir, input)?;
+    same(
+        &rt,
+        found.as_slice(),
+        "client a\nspent\nok 0\nend next 1 kept 0\n",
+        input,
+    );
     Ok(())
 }

@@ -1,8 +1,9 @@
 use Rattle.std.proofs.Common.{sym, subst, ◌∙◌, length, []}
 use Rattle.std.proofs.lemmas.Result.{err_from_is_err_and}
 use Rattle.std.proofs.lemmas.Bool.{eqb-true, eqb-false}
-use Rattle.lt_block.specs.declared.fault.BlockError.TheVariants as errors
-use Rattle.lt_block.specs.Reading.{Fails, records_at}
+use Rattle.lt_rec.specs.declared.fault.FormatError.TheVariants as errors
+use Rattle.lt_rec.specs.Reading.{Fails}
+use Rattle.lt_block.specs.Reading.{records_at}
 use Rattle.lt_block.proofs.Loop.{at_end, too_many, broken, too_long, no_count, counted}
 use Rattle.lt_block.proofs.reading.places_of.Goals as goal
 

@@ -11,7 +11,7 @@ pub returns : goal.returns
 returns c =
     let same : get_or (records_in c.args.bytes.now) c.args.i nobody ≡ c.record_in.result = get_or_default (records_in c.args.bytes.now) c.args.i nobody c.record_in.result c.requires.within ∙ c.record_in.ensures.value in
     let here : c.below.result ≡ below_at c.args.cut.now (records_in c.args.bytes.now) c.args.i =
-    c.below.ensures.exact ∙ (ap (is_below c.args.cut.now) c.key.ensures ∙ ap (λ (r : Record). is_below c.args.cut.now r.key) (sym same)) in
+    c.below.ensures.exact ∙ (ap (is_below c.args.cut.now) c.key.ensures.value ∙ ap (λ (r : Record). is_below c.args.cut.now r.key) (sym same)) in
     record {
       below = λ yes k le. down c.args.cut.now [] (records_in c.args.bytes.now) k c.args.i c.requires.table.block.rising c.requires.within le (sym here ∙ yes);
       not_below = λ not k le lt. up c.args.cut.now [] (records_in c.args.bytes.now) c.args.i k c.requires.table.block.rising lt le (sym here ∙ not);

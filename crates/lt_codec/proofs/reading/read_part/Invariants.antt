@@ -5,6 +5,7 @@ use Rattle.lt_codec.proofs.reading.read_part.Given as goal
 -- the values so far are read, and the rest is read behind them
 abbrev pub invariant-loop-column : goal.invariant-loop-column
 invariant-loop-column l = record {
-  read : behind_values l.values.items (all_at (reads_of l.part) l.end (drop l.column-index l.columns) l.fields) ≡ behind_values l.initial.values.items (all_at (reads_of l.part) l.end l.columns l.bytes);
-  within : length l.fields ≤ length l.bytes;
+  read : behind_values l.rows.row (all_at (reads_of l.part) l.end (drop l.column-index l.columns) l.left) ≡ behind_values l.initial.rows.row (all_at (reads_of l.part) l.end l.columns l.bytes);
+  whole : l.rows.rows ≡ l.initial.rows.rows;
+  within : length l.left ≤ length l.bytes;
 }

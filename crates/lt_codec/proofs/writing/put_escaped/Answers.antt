@@ -1,16 +1,11 @@
-use Rattle.std.proofs.Common.{◌++◌, ◌+◌, ℕ, List, drop, ap, sym, ◌∙◌}
-use Rattle.lt_codec.specs.Spelling.{escaped}
-use Rattle.lt_codec.proofs.Lengths.{escaped_more, escaped_end}
+use Rattle.std.proofs.Common.{◌≡◌, ◌++◌, ◌∷◌, [], List, ℕ, ap, sym, ◌∙◌, append_assoc, arith}
+use Rattle.lt_codec.proofs.Zeros.{escaped_plain}
 use Rattle.lt_codec.proofs.writing.put_escaped.Goals as goal
 
-pub loop-byte-preserved : goal.loop-byte-preserved
-loop-byte-preserved c =
-    let i = c.loop-byte.byte-index in
+pub returns-in_ok-extend_from_slice-in-None-2 : goal.returns-in_ok-extend_from_slice-in-None-2
+returns-in_ok-extend_from_slice-in-None-2 c =
+    let out = c.args.out.now.items in
     let bytes = c.args.bytes.now in
-    ap (λ (out : List ℕ). out ++ escaped (drop (i + 1) bytes)) c.in_ok-put_byte.ensures ∙ escaped_more c.loop-byte.out.items bytes i c.loop-byte-test.true ∙ c.loop-byte.invariant
-
-pub returns : goal.returns
-returns c =
-    let i = c.loop-byte.byte-index in
-    let bytes = c.args.bytes.now in
-    c.in_ok-extend_from_slice.ensures.items ∙ ap (λ (r : List ℕ). c.loop-byte.out.items ++ r) (sym (escaped_end bytes i c.loop-byte-test.false)) ∙ c.loop-byte.invariant
+    let plain = escaped_plain bytes (λ k lt. c.in-None.ensures k (omega arith) lt) in
+    c.in_ok-extend_from_slice-in-None-2.ensures.items ∙ ap (λ (o : List ℕ). o ++ 0 ∷ 0 ∷ []) c.in_ok-extend_from_slice-in-None.ensures.items
+    ∙ append_assoc out bytes (0 ∷ 0 ∷ []) ∙ ap (λ (r : List ℕ). out ++ r) (sym plain)

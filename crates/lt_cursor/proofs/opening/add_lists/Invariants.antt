@@ -8,5 +8,5 @@ use Rattle.lt_cursor.proofs.opening.add_lists.Given as goal
 abbrev pub invariant-loop-list : goal.invariant-loop-list
 invariant-loop-list g l = record {
   blocks : sum_by (λ (s : Strand). s.blocks) l.sources.items ≡ sum_by (λ (s : Strand). s.blocks) l.initial.sources.items;
-  records : map (left_of l.area) l.sources.items ≡ map (left_of l.area) l.initial.sources.items ++ lefts_of_lists l.area l.yielded;
+  records : map (left_of l.raw_box) l.sources.items ≡ map (left_of l.raw_box) l.initial.sources.items ++ lefts_of_lists l.raw_box l.yielded;
 }

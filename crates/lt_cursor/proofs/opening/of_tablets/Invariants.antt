@@ -9,7 +9,7 @@ use Rattle.lt_cursor.proofs.opening.of_tablets.Given as goal
 -- a source for each tablet so far
 abbrev pub invariant-loop-tablet : goal.invariant-loop-tablet
 invariant-loop-tablet g l = record {
-  blocks : sum_by (λ (s : Strand). s.blocks) l.sources.items ≡ range_lens l.area (map arc_value l.yielded);
-  records : g.V.Device.honest ≡ true → map (left_of l.area) l.sources.items ≡ lefts_of_tablets l.area l.down (map arc_value l.yielded);
+  blocks : sum_by (λ (s : Strand). s.blocks) l.sources.items ≡ range_lens l.raw_box (map arc_value l.yielded);
+  records : g.V.Device.honest ≡ true → map (left_of l.raw_box) l.sources.items ≡ lefts_of_tablets l.raw_box l.down (map arc_value l.yielded);
   ordered : g.V.Device.honest ≡ true → AreInOrder l.down (map arc_value l.yielded);
 }

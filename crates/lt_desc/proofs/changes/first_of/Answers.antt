@@ -2,7 +2,7 @@ use Rattle.std.proofs.Common.{List, sym, subst, arith}
 use Rattle.std.specs.Prelude.{IsTrue}
 use Rattle.lt_schema.specs.Shapes.{ColumnShape}
 use Rattle.lt_schema.specs.Lawful.{is_schema}
-use Rattle.lt_desc.specs.Reading.{is_within}
+use Rattle.lt_rec.specs.Reading.{is_within}
 use Rattle.lt_desc.proofs.Taken.{where32}
 use Rattle.lt_desc.proofs.First.{within_parts}
 use Rattle.lt_desc.proofs.ColumnText.{columns_read, schema_of}

@@ -1,7 +1,7 @@
 use Rattle.std.proofs.Common.{ap, sym, ◌∙◌, refl}
 use Rattle.std.proofs.lemmas.Str.{is_utf8-from_IsUtf8}
 use Rattle.lt_desc.proofs.Names.{not_utf8}
-use Rattle.lt_desc.proofs.Taken.{done}
+use Rattle.lt_rec.proofs.Reading.{done}
 use Rattle.lt_desc.proofs.columns.text_of.Goals as goal
 
 pub returns-in_ok-copy_of-in-Ok : goal.returns-in_ok-copy_of-in-Ok

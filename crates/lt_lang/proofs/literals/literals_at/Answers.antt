@@ -3,7 +3,7 @@ use Rattle.lt_lang.proofs.LiteralLoop.{values-begin, values-more, values-end, li
 use Rattle.lt_lang.proofs.literals.literals_at.Goals as goal
 
 pub loop-values-init : goal.loop-values-init
-loop-values-init c = rw c.new-values.ensures.items (values-begin c.args.bytes.now)
+loop-values-init c = rw c.in_ok-values.ensures.items (values-begin c.args.bytes.now)
 
 pub loop-values-smaller : goal.loop-values-smaller
 loop-values-smaller c =

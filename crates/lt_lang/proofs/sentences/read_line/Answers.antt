@@ -1,4 +1,4 @@
-use Rattle.lt_lang.specs.declared.command.Line.TheVariants as lines
+use Rattle.lt_command.specs.declared.command.Line.TheVariants as lines
 use Rattle.lt_lang.proofs.Wanted.{sentence_line, skip_line}
 use Rattle.lt_lang.proofs.Exactly.{read_so, found_so}
 use Rattle.lt_lang.proofs.sentences.read_line.Goals as goal

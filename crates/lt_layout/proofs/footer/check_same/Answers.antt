@@ -1,7 +1,7 @@
 use Rattle.std.proofs.Common.{sym, subst, ap, ◌∙◌, ◌+◌, ◌≡◌, length, ℕ, arith}
 use Rattle.std.specs.Prelude.{nat_eq}
-use Rattle.lt_block.specs.Reading.{Reads}
-use Rattle.lt_layout.specs.Reading.{holds, same_at}
+use Rattle.lt_rec.specs.Reading.{Reads, holds}
+use Rattle.lt_layout.specs.Reading.{same_at}
 use Rattle.lt_layout.proofs.Expected.{same_end}
 use Rattle.lt_layout.proofs.footer.check_same.Goals as goal
 
@@ -12,4 +12,4 @@ returns c =
     sym c.loop-i.invariant
     ∙ (same_end c.args.bytes.now c.args.wanted.now c.args.at c.loop-i.i (omega (arith, all, c.min-common.ensures))
     ∙ ap (λ (n : ℕ). holds (nat_eq (length c.args.bytes.now) (length c.args.wanted.now)) (c.args.at + n)) all) in
-    record { exact = subst (Reads {X = Unit {0}} {Y = Unit {0}} (λ x. x) c.holds-2.result) (sym end) c.holds-2.ensures.exact }
+    record { exact = subst (Reads {X = Unit {0}} {Y = Unit {0}} (λ x. x) c.test_at-2.result) (sym end) c.test_at-2.ensures.exact }

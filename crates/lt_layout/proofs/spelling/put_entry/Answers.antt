@@ -9,10 +9,8 @@ returns c =
     let out = c.args.out.now.items in
     let e = c.entry.inside in
     five_parts c.args.out.now.items (to_be_bytes w64 c.entry.inside.offset) (to_be_bytes w32 c.entry.inside.len) (to_be_bytes w32 c.entry.inside.count) (key_spelled c.entry.inside.first) (key_spelled c.entry.inside.last)
-    c.extend_from_slice.new.self.items c.extend_from_slice-2.new.self.items c.extend_from_slice-3.new.self.items c.put_key.new.out.items c.put_key-2.new.out.items
-    (c.in_ok-extend_from_slice.ensures.items ∙ ap (λ (x : List ℕ). out ++ x) c.to_be_bytes.ensures)
-    (c.in_ok-extend_from_slice-2.ensures.items ∙ ap (λ (x : List ℕ). c.extend_from_slice.new.self.items ++ x) c.to_be_bytes-2.ensures)
-    (c.in_ok-extend_from_slice-3.ensures.items ∙ ap (λ (x : List ℕ). c.extend_from_slice-2.new.self.items ++ x) c.to_be_bytes-3.ensures)
-    (c.in_ok-put_key.ensures ∙ ap (λ (x : List ℕ). c.extend_from_slice-3.new.self.items ++ key_spelled x) c.as_slice.ensures)
+    c.put_u64.new.out.items c.put_u32.new.out.items c.put_u32-2.new.out.items c.put_key.new.out.items c.put_key-2.new.out.items
+    c.in_ok-put_u64.ensures.ok c.in_ok-put_u32.ensures.ok c.in_ok-put_u32-2.ensures.ok
+    (c.in_ok-put_key.ensures ∙ ap (λ (x : List ℕ). c.put_u32-2.new.out.items ++ key_spelled x) c.as_slice.ensures)
     (c.in_ok-put_key-2.ensures ∙ ap (λ (x : List ℕ). c.put_key.new.out.items ++ key_spelled x) c.as_slice-2.ensures)
     ∙ ap (λ (v : Entry). out ++ entry_spelled v) c.entry.view_is

@@ -26,7 +26,7 @@ loop-done-init c = (
 pub returns-in_err-seen-clause-fault : goal.returns-in_err-seen-clause-fault
 returns-in_err-seen-clause-fault c =
     let p = err_from_is_err_and c.from_residual-in_err-seen.result c.from_residual-in_err-seen.ensures.1 in
-    rw (p.1, p.2) (block_stop c.loop-done.invariant.1 c.args.totals.now c.args.entry.now c.args.bytes.now c.entry.inside.count c.in_ok-count.count c.in_ok-count.behind.now c.in_ok-holds.field-0 c.loop-done.done (c.in_ok-count.count - c.loop-done.done - 1) (length c.args.bytes.now - length c.loop-done.rest.now) c.in_err-seen.field-0.0.at c.loop-done.last.now c.loop-done.rest.now (ap (λ (v : Entry). v.count) c.entry.view_is) (omega arith) c.in_ok-count.ensures.exact c.in_ok-holds.ensures.exact c.loop-done-test.true c.in_err-seen.ensures.fault c.loop-done.invariant.2)
+    rw (p.1, p.2) (block_stop c.loop-done.invariant.1 c.args.totals.now c.args.entry.now c.args.bytes.now c.entry.inside.count c.in_ok-count.count c.in_ok-count.behind.now c.in_ok-test_at.field-0 c.loop-done.done (c.in_ok-count.count - c.loop-done.done - 1) (length c.args.bytes.now - length c.loop-done.rest.now) c.in_err-seen.field-0.0.at c.loop-done.last.now c.loop-done.rest.now (ap (λ (v : Entry). v.count) c.entry.view_is) (omega arith) c.in_ok-count.ensures.exact c.in_ok-test_at.ensures.exact c.loop-done-test.true c.in_err-seen.ensures.fault c.loop-done.invariant.2)
 
 pub loop-done-preserved : goal.loop-done-preserved
 loop-done-preserved c =
@@ -48,17 +48,17 @@ loop-done-preserved c =
       λ some. (last_of_push front rec ∙ ap (λ (k : List ℕ). Some k) s.key_is, c.in_ok-seen.ensures.long_enough),
     )
 
-pub returns-in_err-holds-2-clause-fault : goal.returns-in_err-holds-2-clause-fault
-returns-in_err-holds-2-clause-fault c =
-    let p = err_from_is_err_and c.from_residual-in_err-holds-2.result c.from_residual-in_err-holds-2.ensures.1 in
-    rw (p.1, p.2) (checks_end (Err c.in_err-holds-2.field-0.0) c.loop-done.invariant.1 c.is_empty.result (nat_eq (length c.loop-done.rest.now) 0) (length c.args.bytes.now - length c.loop-done.rest.now) (own_block_at c.args.totals.now c.args.entry.now c.args.bytes.now) c.is_empty.ensures c.in_err-holds-2.ensures.exact
-    (block_done c.loop-done.invariant.1 c.args.totals.now c.args.entry.now c.args.bytes.now c.entry.inside.count c.in_ok-count.count c.in_ok-count.behind.now c.in_ok-holds.field-0 c.loop-done.done (length c.args.bytes.now - length c.loop-done.rest.now) c.loop-done.last.now c.loop-done.rest.now (ap (λ (v : Entry). v.count) c.entry.view_is) c.in_ok-count.ensures.exact c.in_ok-holds.ensures.exact c.loop-done-test.false c.loop-done.invariant.2))
+pub returns-in_err-test_at-2-clause-fault : goal.returns-in_err-test_at-2-clause-fault
+returns-in_err-test_at-2-clause-fault c =
+    let p = err_from_is_err_and c.from_residual-in_err-test_at-2.result c.from_residual-in_err-test_at-2.ensures.1 in
+    rw (p.1, p.2) (checks_end (Err c.in_err-test_at-2.field-0.0) c.loop-done.invariant.1 c.is_empty.result (nat_eq (length c.loop-done.rest.now) 0) (length c.args.bytes.now - length c.loop-done.rest.now) (own_block_at c.args.totals.now c.args.entry.now c.args.bytes.now) c.is_empty.ensures c.in_err-test_at-2.ensures.exact
+    (block_done c.loop-done.invariant.1 c.args.totals.now c.args.entry.now c.args.bytes.now c.entry.inside.count c.in_ok-count.count c.in_ok-count.behind.now c.in_ok-test_at.field-0 c.loop-done.done (length c.args.bytes.now - length c.loop-done.rest.now) c.loop-done.last.now c.loop-done.rest.now (ap (λ (v : Entry). v.count) c.entry.view_is) c.in_ok-count.ensures.exact c.in_ok-test_at.ensures.exact c.loop-done-test.false c.loop-done.invariant.2))
 
 pub returns-clause-found : goal.returns-clause-found
 returns-clause-found c = λ recs before old.
     let so_far = c.loop-done.invariant.3 recs before old in
-    let read = block_read c.loop-done.invariant.1 c.is_empty.result (nat_eq (length c.loop-done.rest.now) 0) (length c.args.bytes.now - length c.loop-done.rest.now) c.in_ok-holds-2.field-0 (own_block_at c.args.totals.now c.args.entry.now c.args.bytes.now) c.is_empty.ensures c.in_ok-holds-2.ensures.exact
-    (block_done c.loop-done.invariant.1 c.args.totals.now c.args.entry.now c.args.bytes.now c.entry.inside.count c.in_ok-count.count c.in_ok-count.behind.now c.in_ok-holds.field-0 c.loop-done.done (length c.args.bytes.now - length c.loop-done.rest.now) c.loop-done.last.now c.loop-done.rest.now (ap (λ (v : Entry). v.count) c.entry.view_is) c.in_ok-count.ensures.exact c.in_ok-holds.ensures.exact c.loop-done-test.false c.loop-done.invariant.2) in (
+    let read = block_read c.loop-done.invariant.1 c.is_empty.result (nat_eq (length c.loop-done.rest.now) 0) (length c.args.bytes.now - length c.loop-done.rest.now) c.in_ok-test_at-2.field-0 (own_block_at c.args.totals.now c.args.entry.now c.args.bytes.now) c.is_empty.ensures c.in_ok-test_at-2.ensures.exact
+    (block_done c.loop-done.invariant.1 c.args.totals.now c.args.entry.now c.args.bytes.now c.entry.inside.count c.in_ok-count.count c.in_ok-count.behind.now c.in_ok-test_at.field-0 c.loop-done.done (length c.args.bytes.now - length c.loop-done.rest.now) c.loop-done.last.now c.loop-done.rest.now (ap (λ (v : Entry). v.count) c.entry.view_is) c.in_ok-count.ensures.exact c.in_ok-test_at.ensures.exact c.loop-done-test.false c.loop-done.invariant.2) in (
       c.loop-done.invariant.1,
       read,
       found_by (recs ++ c.loop-done.invariant.1) c.loop-done.found c.loop-done.survey-inside.hashes.items so_far.0 so_far.1,

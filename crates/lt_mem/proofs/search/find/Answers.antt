@@ -15,7 +15,7 @@ place_in-requires c =
     record {
       rising = subst IsRising same (piece_rises c.args.pieces.now at c.requires.lined c.piece_for-at.ensures.within);
       leads = subst (λ (xs : List Record). AreLeads xs c.leads.result.now) (sym c.as_slice.ensures) c.leads.ensures;
-      lead = c.lead_of-lead.ensures;
+      lead = c.requires.lead;
     }
 
 pub returns-in-Err-clause-gap : goal.returns-in-Err-clause-gap

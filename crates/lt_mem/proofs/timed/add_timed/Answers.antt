@@ -13,7 +13,7 @@ use Rattle.lt_mem.proofs.timed.add_timed.Goals.{then-start-end+in_ok-cut+in_ok-a
 
 pub loop-start-preserved : goal.loop-start-preserved
 loop-start-preserved c =
-    let p = has_time c.args.area.now in
+    let p = has_time c.args.raw_box.now in
     let ys = in_order c.args.down c.args.recs.now in
     let start = c.loop-start.start in
     let end = c.run_end-end.result in
@@ -35,7 +35,7 @@ loop-start-preserved c =
 
 pub returns-else-not-is_full : goal.returns-else-not-is_full
 returns-else-not-is_full c =
-    let p = has_time c.args.area.now in
+    let p = has_time c.args.raw_box.now in
     let ys = in_order c.args.down c.args.recs.now in
     let start = c.loop-start.start in
     grown_whole c.args.found.now c.loop-start.found (filter p (take start ys)) (filter p (drop start ys)) (filter p c.args.chunk.now)

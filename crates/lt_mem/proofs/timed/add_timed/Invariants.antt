@@ -8,7 +8,7 @@ use Rattle.lt_mem.proofs.timed.add_timed.Given as goal
 abbrev pub invariant-loop-start : goal.invariant-loop-start
 invariant-loop-start l = record {
   within : l.start ≤ length l.recs + 1;
-  added : l.found ≡ grown l.initial.found (filter (has_time l.area) (take l.start (in_order l.down l.recs)));
+  added : l.found ≡ grown l.initial.found (filter (has_time l.raw_box) (take l.start (in_order l.down l.recs)));
 }
 
 abbrev pub decreases-loop-start : goal.decreases-loop-start

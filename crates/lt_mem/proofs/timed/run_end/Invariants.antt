@@ -9,7 +9,7 @@ abbrev pub invariant-loop-end : goal.invariant-loop-end
 invariant-loop-end l = record {
   forward : l.start ≤ l.end;
   within : l.end ≤ length l.recs;
-  timed : (k : ℕ) (d : Record) → l.start ≤ k → k < l.end → has_time l.area (get_or (in_order l.down l.recs) k d) ≡ true;
+  timed : (k : ℕ) (d : Record) → l.start ≤ k → k < l.end → has_time l.raw_box (get_or (in_order l.down l.recs) k d) ≡ true;
 }
 
 abbrev pub decreases-loop-end : goal.decreases-loop-end

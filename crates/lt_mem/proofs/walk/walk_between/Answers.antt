@@ -14,7 +14,7 @@ use Rattle.lt_mem.proofs.walk.walk_between.Goals.{then-down, else-down}
 
 pub returns-then-is_full : goal.returns-then-is_full
 returns-then-is_full c =
-    let p = in_box c.args.area.now in
+    let p = in_box c.args.raw_box.now in
     let ps = c.args.pieces.now in
     let down = c.args.down in
     let was = in_order down (joined (so_far down ps c.loop-step.step)) in
@@ -46,7 +46,7 @@ walk_piece-requires-clause-lo c = λ e.
     ] in
     let held : at < length ps = (let z = place_within c.args.down (length ps) c.loop-step.step (omega arith) in omega arith) in
     let same : x ≡ piece_at ps at = c.index-pieces-at.is ∙ get_or_default ps at x [] held in
-    subst (AllMeetLo c.args.area.now) (sym same) (c.requires.lo at (ltb-true 0 at e) held)
+    subst (AllMeetLo c.args.raw_box.now) (sym same) (c.requires.lo at (ltb-true 0 at e) held)
 
 pub walk_piece-requires-clause-hi : goal.walk_piece-requires-clause-hi
 walk_piece-requires-clause-hi c = λ e.
@@ -55,11 +55,11 @@ walk_piece-requires-clause-hi c = λ e.
     let x = c.index-pieces-at.result in
     let next : at + 1 < length ps = ltb-true (at + 1) (length ps) e in
     let same : x ≡ piece_at ps at = c.index-pieces-at.is ∙ get_or_default ps at x [] (omega arith) in
-    subst (AllMeetHi c.args.area.now) (sym same) (c.requires.hi at next)
+    subst (AllMeetHi c.args.raw_box.now) (sym same) (c.requires.hi at next)
 
 pub loop-step-preserved : goal.loop-step-preserved
 loop-step-preserved c =
-    let p = in_box c.args.area.now in
+    let p = in_box c.args.raw_box.now in
     let ps = c.args.pieces.now in
     let down = c.args.down in
     let step = c.loop-step.step in

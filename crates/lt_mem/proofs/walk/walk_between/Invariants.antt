@@ -8,4 +8,4 @@ use Rattle.lt_mem.proofs.walk.walk_between.Given as goal
 
 -- what was read so far is added
 abbrev pub invariant-loop-step : goal.invariant-loop-step
-invariant-loop-step l = l.found ≡ grown l.initial.found (filter (in_box l.area) (in_order l.down (joined (so_far l.down l.pieces l.step))))
+invariant-loop-step l = l.found ≡ grown l.initial.found (filter (in_box l.raw_box) (in_order l.down (joined (so_far l.down l.pieces l.step))))

@@ -24,7 +24,7 @@ returns c =
     let end = c.end_of-end.result in
     let first = c.min-first.result in
     let same : c.split_at-2.result.1.now ≡ drop first (take end ps) = c.split_at-2.ensures.back ∙ ap (drop first) c.split_at.ensures.front in
-    let all = box_between a.area.now ps first end a.down c.end_of-end.ensures.within (λ k h. c.first_of.ensures.before k (omega arith)) c.end_of-end.ensures.after in
-    subst (λ (g : ListInGrowth). OnOk c.walk_between.result (c.walk_between.new.found ≡ grown g (filter (in_box a.area.now) (in_order a.down (joined ps))))) c.reserve.ensures
+    let all = box_between a.raw_box.now ps first end a.down c.end_of-end.ensures.within (λ k h. c.first_of.ensures.before k (omega arith)) c.end_of-end.ensures.after in
+    subst (λ (g : ListInGrowth). OnOk c.walk_between.result (c.walk_between.new.found ≡ grown g (filter (in_box a.raw_box.now) (in_order a.down (joined ps))))) c.reserve.ensures
     (subst (λ (ys : List Record). OnOk c.walk_between.result (c.walk_between.new.found ≡ grown c.reserve.new.self ys))
-    (ap (λ (qs : List (List Record)). filter (in_box a.area.now) (in_order a.down (joined qs))) same ∙ sym all) c.walk_between.ensures)
+    (ap (λ (qs : List (List Record)). filter (in_box a.raw_box.now) (in_order a.down (joined qs))) same ∙ sym all) c.walk_between.ensures)

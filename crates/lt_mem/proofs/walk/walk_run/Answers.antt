@@ -11,7 +11,7 @@ use Rattle.lt_mem.proofs.walk.walk_run.Goals as goal
 pub returns-then-misses : goal.returns-then-misses
 returns-then-misses c =
     let a = c.args in
-    let p = has_time a.area.now in
+    let p = has_time a.raw_box.now in
     let run = piece a.held.now a.from a.to a.down in
     let none = filter_none p run (all_in_piece (λ (x : Record). p x ≡ false) a.held.now a.from a.to a.down (c.if-misses.ensures refl)) in
     sym (ap (grown a.found.now) none ∙ grown_by_none a.found.now)
@@ -19,7 +19,7 @@ returns-then-misses c =
 pub returns-then-lies_in : goal.returns-then-lies_in
 returns-then-lies_in c =
     let a = c.args in
-    let p = has_time a.area.now in
+    let p = has_time a.raw_box.now in
     let run = piece a.held.now a.from a.to a.down in
     let all = filter_all p run (all_in_piece (λ (x : Record). p x ≡ true) a.held.now a.from a.to a.down (c.if-lies_in.ensures refl)) in
     subst (λ (ys : List Record). OnOk c.add.result (c.add.new.self ≡ grown a.found.now ys)) (c.in_ok-run.ensures ∙ sym all) c.add.ensures

@@ -5,5 +5,5 @@ use Rattle.lt_model.proofs.laws.replies_show_the_rows.Goals as goal
 pub returns-clause-shown : goal.returns-clause-shown
 returns-clause-shown c = λ shows. replies-show (clock_of shows)
 
-pub returns-clause-told : goal.returns-clause-told
-returns-clause-told c = λ shows. numbers-shown (clock_of shows)
+pub returns-clause-once : goal.returns-clause-once
+returns-clause-once c = λ shows. numbers-shown (clock_of shows)

@@ -12,7 +12,7 @@ pub returns : goal.returns
 returns c =
     let versions = c.args.schemas.now in
     let query = c.args.query.now in
-    let stands : Bor Numbered → Numbered = λ stored. stored.now in
+    let stands : Bor Numbered → Numbered = λ numbered. numbered.now in
     let sorted : List (Bor Numbered) = c.sort.new.found.items in
     record {
       sorted = map stands sorted;
@@ -20,6 +20,6 @@ returns c =
           (IsPermutation-map stands c.in_ok-found.found.items sorted c.sort.ensures.same);
       in_order = IsSorted-map stands (numbered_cmp versions.first query.down) sorted
           (subst (λ (schema : SchemaShape). IsSorted (λ (a b : Bor Numbered). numbered_cmp schema query.down a.now b.now) sorted) c.first-schema.ensures.value c.in_ok-sort.ensures.sorted);
-      first_ones = c.in_ok-rows.ensures ∙ ap (map (λ (stored : Bor Numbered). under_newest versions stored.now)) (c.as_slice-2.ensures.value ∙ c.truncate.ensures.items) ∙ first_lifted versions stands query.limit sorted;
+      first_ones = c.in_ok-rows.ensures ∙ ap (map (λ (numbered : Bor Numbered). under_newest versions numbered.now)) (c.as_slice-2.ensures.value ∙ c.truncate.ensures.items) ∙ first_lifted versions stands query.limit sorted;
       others = ap (λ (xs : List (Bor Numbered)). nat_lt query.limit (length xs)) c.as_slice.ensures.value ∙ ap (nat_lt query.limit) (sym (length-map sorted stands));
     }

@@ -24,7 +24,7 @@ returns-in_ok-to_rec c =
     let to_is = c.seek-to.ensures.exact ∙ ap (λ (cut : Cut). count_by (λ r. is_below cut r.key) recs) c.hi.ensures in
     let picked : IsPicked recs c.seek-from.result c.seek-to.result q.since c.in-Some.place = subst (λ n. IsPicked recs c.seek-from.result c.seek-to.result n c.in-Some.place) c.since.ensures c.in-Some.ensures in
     let within : c.in-Some.place < length recs = omega (arith, picked.below, c.if-prove.false, c.count-count.ensures.value) in
-    subst (λ (r : Record). IsLatest recs q.prefix q.since c.args.best (Some r)) (sym c.in_ok-to_rec.ensures)
+    subst (λ (r : Record). IsLatest recs q.prefix q.since c.args.best (Some r)) (sym c.in_ok-to_rec.ensures.value)
     (latest_it recs q.prefix q.since c.seek-from.result c.seek-to.result c.count-count.ensures.block from_is to_is c.in-Some.place c.get-rec.result picked within c.get-rec.ensures.value c.args.best c.if-is_after.ensures)
 
 pub returns-else-is_after : goal.returns-else-is_after

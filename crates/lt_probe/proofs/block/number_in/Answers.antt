@@ -19,5 +19,5 @@ returns-else-eq-clause-none c =
     let counted = c.seek-place.ensures.exact ∙ ap (λ (cut : Cut). count_by (λ r. is_below cut r.key) recs) c.requires.cut in
     none_behind recs c.args.key.now c.get-rec.result c.count.ensures.block c.seek-place.result counted (omega (arith, c.count.ensures.value)) c.get-rec.ensures.value
     (λ same.
-    let clash : false ≡ true = c.if-eq.ensures ∙ ap (λ (k : List ℕ). pointwise eqb k c.args.key.now) (c.key.ensures ∙ same) ∙ bytes_same c.args.key.now in
+    let clash : false ≡ true = c.if-eq.ensures ∙ ap (λ (k : List ℕ). pointwise eqb k c.args.key.now) (c.key.ensures.value ∙ same) ∙ bytes_same c.args.key.now in
     absurd cc)

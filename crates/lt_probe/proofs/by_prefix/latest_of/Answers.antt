@@ -21,7 +21,7 @@ if_ok (Err why) f h = tt
 
 pub returns-then-is_earlier-clause-value : goal.returns-then-is_earlier-clause-value
 returns-then-is_earlier-clause-value g c = λ honest.
-    behind c.args.tablet.now c.args.asked.now.prefix c.args.asked.now.since c.args.best (c.count-count.ensures.told honest) (sym c.if-is_earlier.ensures)
+    behind c.args.tablet.now c.args.asked.now.prefix c.args.asked.now.since c.args.best (c.count-count.ensures.honest honest) (sym c.if-is_earlier.ensures)
 
 pub returns-then-is_earlier-clause-over_best : goal.returns-then-is_earlier-clause-over_best
 returns-then-is_earlier-clause-over_best g c = covers_itself c.args.best
@@ -33,7 +33,7 @@ returns-then-is_denied_by-clause-value g c = λ honest.
     let whole = denied_whole q c.filter.result.now c.if-is_denied_by.ensures.exact in
     denied t q.prefix q.since c.args.best (c.requires.whole honest whole)
     (λ held.
-    let clash : true ≡ false = sym c.if-is_denied_by.true ∙ c.is_denied_by.ensures.member (hashes_from None (records_in t)) (c.filter.ensures.told honest) held in
+    let clash : true ≡ false = sym c.if-is_denied_by.true ∙ c.is_denied_by.ensures.member (hashes_from None (records_in t)) (c.filter.ensures.honest honest) held in
     absurd cc)
 
 pub returns-then-is_denied_by-clause-over_best : goal.returns-then-is_denied_by-clause-over_best
@@ -46,11 +46,11 @@ returns-clause-value g c = λ honest.
     let from = c.index_range-from.result.0 in
     let to = c.index_range-from.result.1 in
     let first = c.first_read-first.result in
-    let range = subst (λ (area : RawBox). IsIndexRange t area from to) c.area.ensures c.index_range-from.ensures.exact in
+    let range = subst (λ (raw_box : RawBox). IsIndexRange t raw_box from to) c.raw_box.ensures c.index_range-from.ensures.exact in
     let is : IsFirst q from to first = record { last = c.first_read-first.ensures.last; part = c.first_read-first.ensures.part; none = c.first_read-first.ensures.none } in
     if_ok c.latest_of_blocks.result
-    (latest_all t q from to (c.count-count.ensures.told honest) range.ordered
-    (λ i recs r far. subst (λ (area : RawBox). All (λ (x : Record). in_box area x ≡ false) recs) c.area.ensures (c.index_range-from.ensures.outside honest i recs r far))
+    (latest_all t q from to (c.count-count.ensures.honest honest) range.ordered
+    (λ i recs r far. subst (λ (raw_box : RawBox). All (λ (x : Record). in_box raw_box x ≡ false) recs) c.raw_box.ensures (c.index_range-from.ensures.outside honest i recs r far))
     first range is (c.requires.whole honest) c.args.best)
     (c.latest_of_blocks.ensures.value honest)
 
@@ -61,7 +61,7 @@ returns-clause-ticks g c =
     let from = c.index_range-from.result.0 in
     let to = c.index_range-from.result.1 in
     let first = c.first_read-first.result in
-    let range = subst (λ (area : RawBox). IsIndexRange t area from to) c.area.ensures c.index_range-from.ensures.exact in
+    let range = subst (λ (raw_box : RawBox). IsIndexRange t raw_box from to) c.raw_box.ensures c.index_range-from.ensures.exact in
     let is : IsFirst q from to first = record { last = c.first_read-first.ensures.last; part = c.first_read-first.ensures.part; none = c.first_read-first.ensures.none } in
     let admitted : admits_question q t.filter ≡ true = ap (admits_question q) (sym c.filter.ensures.value) ∙ admitted_by (admits_question q c.filter.result.now) (sym c.if-is_denied_by.false ∙ c.is_denied_by.ensures.exact) in
     omega (arith, c.latest_of_blocks.ensures.ticks, blocks_counted t q c.args.best from to first range is (sym c.is_earlier.ensures ∙ c.if-is_earlier.false) admitted)

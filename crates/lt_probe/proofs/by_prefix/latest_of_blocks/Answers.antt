@@ -31,7 +31,7 @@ loop-at-preserved g c =
     let xs = joined (take (at - from) (drop from blocks)) in
     record {
       value = λ honest.
-          let told = c.requires.told honest in
+          let told = c.requires.honest honest in
           let size : length c.args.tablet.now.index ≡ length blocks = ap length told.index_is ∙ length-entries_of 8 blocks in
           let block = get_or blocks at [] in
           let here : slice_get blocks at ≡ Some block = slice_get-get_or blocks at [] (omega (arith, size, c.loop-at-test.true, c.requires.within)) in

@@ -11,8 +11,8 @@ on_ok (Err e) A B f holds = tt
 pub returns-in-Some-clause-takes : goal.returns-in-Some-clause-takes
 returns-in-Some-clause-takes g c =
     on_ok c.put_reply.result _ _
-    (λ written. takes (g.C.Clock.shows c.args.clock.now) c.args.store.now.table c.reply_to.new.store.table c.args.text.now.items c.put_reply.new.out.items (g.V.Device.faults c.args.device.now) (g.V.Device.faults c.reply_to.new.device)
-    c.args.store.now.next_file c.reply_to.new.store.next_file c.args.line (Some c.in-Some.reply) c.in-Some.ensures.answered written c.in-Some.ensures.cause c.in-Some.ensures.undamaged c.in-Some.ensures.spent c.in-Some.ensures.used tt)
+    (λ written. takes (g.C.Clock.shows c.args.clock.now) c.args.store.now.table c.reply_to.new.store.table c.args.text.now.items c.put_reply.new.out.items (record { faults = g.V.Device.faults c.args.device.now; next_file = c.args.store.now.next_file })
+    (record { faults = g.V.Device.faults c.reply_to.new.device; next_file = c.reply_to.new.store.next_file }) c.args.line (Some c.in-Some.reply) c.in-Some.ensures.answered written c.in-Some.ensures.cause c.in-Some.ensures.undamaged c.in-Some.ensures.spent c.in-Some.ensures.used tt)
     c.put_reply.ensures
 
 pub returns-in-Some-clause-history : goal.returns-in-Some-clause-history
@@ -21,5 +21,5 @@ returns-in-Some-clause-history g c = λ opening.
 
 pub returns-in-None-clause-takes : goal.returns-in-None-clause-takes
 returns-in-None-clause-takes g c =
-    takes (g.C.Clock.shows c.args.clock.now) c.args.store.now.table c.reply_to.new.store.table c.args.text.now.items c.args.text.now.items (g.V.Device.faults c.args.device.now) (g.V.Device.faults c.reply_to.new.device)
-    c.args.store.now.next_file c.reply_to.new.store.next_file c.args.line None c.in-None.ensures.answered (sym (append-nil c.args.text.now.items)) c.in-None.ensures.cause tt tt tt c.in-None.ensures.unused
+    takes (g.C.Clock.shows c.args.clock.now) c.args.store.now.table c.reply_to.new.store.table c.args.text.now.items c.args.text.now.items (record { faults = g.V.Device.faults c.args.device.now; next_file = c.args.store.now.next_file })
+    (record { faults = g.V.Device.faults c.reply_to.new.device; next_file = c.reply_to.new.store.next_file }) c.args.line None c.in-None.ensures.answered (sym (append-nil c.args.text.now.items)) c.in-None.ensures.cause tt tt tt c.in-None.ensures.unused

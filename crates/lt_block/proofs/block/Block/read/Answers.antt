@@ -1,6 +1,7 @@
 use Rattle.std.proofs.Common.{List, ℕ, Ok, Err, subst}
 use Rattle.std.proofs.lemmas.Result.{err_from_is_err_and}
-use Rattle.lt_block.specs.Reading.{Fails, block_at, records_in, IsRead}
+use Rattle.lt_rec.specs.Reading.{Fails}
+use Rattle.lt_block.specs.Reading.{block_at, records_in, IsRead}
 use Rattle.lt_block.proofs.Blocks.{only_so}
 use Rattle.lt_block.proofs.block.Block.read.Goals as goal
 

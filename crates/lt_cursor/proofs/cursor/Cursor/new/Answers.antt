@@ -17,20 +17,20 @@ invariant_of-result g c = λ honest.
     let distinct : HaveDistinctKeys (gathered true (map arc_value a.tablets.items) a.mems.items) = subst (λ b. HaveDistinctKeys (gathered b (map arc_value a.tablets.items) a.mems.items)) honest c.requires.distinct in
     let ts = map arc_value a.tablets.items in
     let strands = c.in_ok-sources.sources.items in
-    let all : (at : ℕ) → at < length (map (left_of a.area) strands) → Contains c.in_ok-waiting.waiting.items at =
-    λ at w. c.in_ok-waiting.ensures.all at (omega (arith, w, length-map strands (left_of a.area), ap length c.as_slice.ensures.value)) in
+    let all : (at : ℕ) → at < length (map (left_of a.raw_box) strands) → Contains c.in_ok-waiting.waiting.items at =
+    λ at w. c.in_ok-waiting.ensures.all at (omega (arith, w, length-map strands (left_of a.raw_box), ap length c.as_slice.ensures.value)) in
     subst (λ (m : Merging). IsSoundMerging m m.waiting) (sym c.new.ensures)
-    (start_sound a.area a.down ts a.mems.items (map (left_of a.area) strands) (c.in_ok-sources.ensures.records honest) c.in_ok-waiting.waiting.items all (c.in_ok-sources.ensures.ordered honest) c.requires.ordered distinct)
+    (start_sound a.raw_box a.down ts a.mems.items (map (left_of a.raw_box) strands) (c.in_ok-sources.ensures.records honest) c.in_ok-waiting.waiting.items all (c.in_ok-sources.ensures.ordered honest) c.requires.ordered distinct)
 
 pub returns-clause-sorted : goal.returns-clause-sorted
 returns-clause-sorted g c = λ honest.
     let a = c.args in
     let distinct : HaveDistinctKeys (gathered true (map arc_value a.tablets.items) a.mems.items) = subst (λ b. HaveDistinctKeys (gathered b (map arc_value a.tablets.items) a.mems.items)) honest c.requires.distinct in
-    subst (λ (m : Merging). IsInOrder a.down (coming_of m)) (sym c.new.ensures) (start_sorted a.area a.down (map arc_value a.tablets.items) a.mems.items (map (left_of a.area) c.in_ok-sources.sources.items) (c.in_ok-sources.ensures.records honest) distinct)
+    subst (λ (m : Merging). IsInOrder a.down (coming_of m)) (sym c.new.ensures) (start_sorted a.raw_box a.down (map arc_value a.tablets.items) a.mems.items (map (left_of a.raw_box) c.in_ok-sources.sources.items) (c.in_ok-sources.ensures.records honest) distinct)
 
 pub returns-clause-exact : goal.returns-clause-exact
 returns-clause-exact g c = λ honest.
     let a = c.args in
     let ts = map arc_value a.tablets.items in
-    subst (λ (m : Merging). IsPermutation (coming_of m) (filter (in_box a.area) (gathered true ts a.mems.items))) (sym c.new.ensures)
-    (start_exact a.area a.down ts a.mems.items (map (left_of a.area) c.in_ok-sources.sources.items) (c.in_ok-sources.ensures.records honest))
+    subst (λ (m : Merging). IsPermutation (coming_of m) (filter (in_box a.raw_box) (gathered true ts a.mems.items))) (sym c.new.ensures)
+    (start_exact a.raw_box a.down ts a.mems.items (map (left_of a.raw_box) c.in_ok-sources.sources.items) (c.in_ok-sources.ensures.records honest))

@@ -14,19 +14,19 @@ use Rattle.lt_cursor.proofs.merge.Merge.lead.Goals as goal
 pub returns-in_default-clause-sound : goal.returns-in_default-clause-sound
 returns-in_default-clause-sound g c = λ honest.
     let i = c.self.inside in
-    let m : Merging = record { area = i.area; held = i.heads; strands = i.sources.items; waiting = i.waiting.items } in
+    let m : Merging = record { raw_box = i.raw_box; held = i.heads; strands = i.sources.items; waiting = i.waiting.items } in
     let sound : IsSoundMerging m (m.waiting ++ c.args.at ∷ []) = subst (λ (m : Merging). IsSoundMerging m (m.waiting ++ c.args.at ∷ [])) (sym c.self.view_is) (c.requires.sound honest) in
     let w : c.args.at < length m.strands = subst (λ (m : Merging). c.args.at < length m.strands) (sym c.self.view_is) c.requires.within in
-    let given : left_of i.area c.index_mut-source.result.now ≡ left_of i.area c.next.new.self = c.in_ok-rec.ensures.given honest ∙ ap (λ o. cons_option o (left_of i.area c.next.new.self)) c.in_default.is in
-    let empty : left_of i.area c.next.new.self ≡ [] = subst (λ o. IfNone o (left_of i.area c.next.new.self ≡ [])) c.in_default.is (c.in_ok-rec.ensures.empty honest) in
+    let given : left_of i.raw_box c.index_mut-source.result.now ≡ left_of i.raw_box c.next.new.self = c.in_ok-rec.ensures.given honest ∙ ap (λ o. cons_option o (left_of i.raw_box c.next.new.self)) c.in_default.is in
+    let empty : left_of i.raw_box c.next.new.self ≡ [] = subst (λ o. IfNone o (left_of i.raw_box c.next.new.self ≡ [])) c.in_default.is (c.in_ok-rec.ensures.empty honest) in
     none_sound m c.args.at c.index_mut-source.result.now c.next.new.self w c.index_mut-source.ensures.value given empty sound
 
 pub returns-in_default-clause-coming : goal.returns-in_default-clause-coming
 returns-in_default-clause-coming g c = λ honest.
     let i = c.self.inside in
-    let m : Merging = record { area = i.area; held = i.heads; strands = i.sources.items; waiting = i.waiting.items } in
+    let m : Merging = record { raw_box = i.raw_box; held = i.heads; strands = i.sources.items; waiting = i.waiting.items } in
     let w : c.args.at < length m.strands = subst (λ (m : Merging). c.args.at < length m.strands) (sym c.self.view_is) c.requires.within in
-    let given : left_of i.area c.index_mut-source.result.now ≡ left_of i.area c.next.new.self = c.in_ok-rec.ensures.given honest ∙ ap (λ o. cons_option o (left_of i.area c.next.new.self)) c.in_default.is in
+    let given : left_of i.raw_box c.index_mut-source.result.now ≡ left_of i.raw_box c.next.new.self = c.in_ok-rec.ensures.given honest ∙ ap (λ o. cons_option o (left_of i.raw_box c.next.new.self)) c.in_default.is in
     none_coming m c.args.at c.index_mut-source.result.now c.next.new.self w c.index_mut-source.ensures.value given ∙ ap coming_of c.self.view_is
 
 pub invariant_of-self-in-Ok : goal.invariant_of-self-in-Ok
@@ -45,27 +45,27 @@ invariant_of-self-in-Ok g c =
 pub returns-in-Ok-clause-sound : goal.returns-in-Ok-clause-sound
 returns-in-Ok-clause-sound g c = λ honest.
     let i = c.self.inside in
-    let m : Merging = record { area = i.area; held = i.heads; strands = i.sources.items; waiting = i.waiting.items } in
+    let m : Merging = record { raw_box = i.raw_box; held = i.heads; strands = i.sources.items; waiting = i.waiting.items } in
     let sound : IsSoundMerging m (m.waiting ++ c.args.at ∷ []) = subst (λ (m : Merging). IsSoundMerging m (m.waiting ++ c.args.at ∷ [])) (sym c.self.view_is) (c.requires.sound honest) in
     let w : c.args.at < length m.strands = subst (λ (m : Merging). c.args.at < length m.strands) (sym c.self.view_is) c.requires.within in
-    let given : left_of i.area c.index_mut-source.result.now ≡ c.in-Some.rec ∷ left_of i.area c.next.new.self = c.in_ok-rec.ensures.given honest ∙ ap (λ o. cons_option o (left_of i.area c.next.new.self)) c.in-Some.is in
+    let given : left_of i.raw_box c.index_mut-source.result.now ≡ c.in-Some.rec ∷ left_of i.raw_box c.next.new.self = c.in_ok-rec.ensures.given honest ∙ ap (λ o. cons_option o (left_of i.raw_box c.next.new.self)) c.in-Some.is in
     some_sound m c.args.at c.index_mut-source.result.now c.next.new.self w c.index_mut-source.ensures.value c.in-Some.rec c.put.new.self sound given c.in-Ok.ensures.ok c.in-Ok.ensures.direction
 
 pub returns-in-Ok-clause-coming : goal.returns-in-Ok-clause-coming
 returns-in-Ok-clause-coming g c = λ honest.
     let i = c.self.inside in
-    let m : Merging = record { area = i.area; held = i.heads; strands = i.sources.items; waiting = i.waiting.items } in
+    let m : Merging = record { raw_box = i.raw_box; held = i.heads; strands = i.sources.items; waiting = i.waiting.items } in
     let sound : IsSoundMerging m (m.waiting ++ c.args.at ∷ []) = subst (λ (m : Merging). IsSoundMerging m (m.waiting ++ c.args.at ∷ [])) (sym c.self.view_is) (c.requires.sound honest) in
     let w : c.args.at < length m.strands = subst (λ (m : Merging). c.args.at < length m.strands) (sym c.self.view_is) c.requires.within in
-    let given : left_of i.area c.index_mut-source.result.now ≡ c.in-Some.rec ∷ left_of i.area c.next.new.self = c.in_ok-rec.ensures.given honest ∙ ap (λ o. cons_option o (left_of i.area c.next.new.self)) c.in-Some.is in
+    let given : left_of i.raw_box c.index_mut-source.result.now ≡ c.in-Some.rec ∷ left_of i.raw_box c.next.new.self = c.in_ok-rec.ensures.given honest ∙ ap (λ o. cons_option o (left_of i.raw_box c.next.new.self)) c.in-Some.is in
     some_coming m c.args.at c.index_mut-source.result.now c.next.new.self w c.index_mut-source.ensures.value c.in-Some.rec c.put.new.self sound given c.in-Ok.ensures.ok c.in-Ok.ensures.direction ∙ ap coming_of c.self.view_is
 
 pub returns-in-Err-default-Clash-clause-never_bad : goal.returns-in-Err-default-Clash-clause-never_bad
 returns-in-Err-default-Clash-clause-never_bad g c = λ honest.
     let i = c.self.inside in
-    let m : Merging = record { area = i.area; held = i.heads; strands = i.sources.items; waiting = i.waiting.items } in
+    let m : Merging = record { raw_box = i.raw_box; held = i.heads; strands = i.sources.items; waiting = i.waiting.items } in
     let sound : IsSoundMerging m (m.waiting ++ c.args.at ∷ []) = subst (λ (m : Merging). IsSoundMerging m (m.waiting ++ c.args.at ∷ [])) (sym c.self.view_is) (c.requires.sound honest) in
     let w : c.args.at < length m.strands = subst (λ (m : Merging). c.args.at < length m.strands) (sym c.self.view_is) c.requires.within in
-    let given : left_of i.area c.index_mut-source.result.now ≡ c.in-Some.rec ∷ left_of i.area c.next.new.self = c.in_ok-rec.ensures.given honest ∙ ap (λ o. cons_option o (left_of i.area c.next.new.self)) c.in-Some.is in
+    let given : left_of i.raw_box c.index_mut-source.result.now ≡ c.in-Some.rec ∷ left_of i.raw_box c.next.new.self = c.in_ok-rec.ensures.given honest ∙ ap (λ o. cons_option o (left_of i.raw_box c.next.new.self)) c.in-Some.is in
     let cause = subst (Refuses i.heads.heads c.in-Some.rec.key) c.in-Err-default-Clash.field-0-1-is c.in-Err-default-Clash.ensures.cause in
     absurd (no_clash m c.args.at c.index_mut-source.result.now c.next.new.self w c.index_mut-source.ensures.value c.in-Some.rec c.in-Err-default-Clash.source sound given cause)

@@ -12,7 +12,7 @@ use Rattle.lt_cursor.proofs.merge.Merge.take.Goals as goal
 pub returns-in-None-clause-empty : goal.returns-in-None-clause-empty
 returns-in-None-clause-empty g c = λ honest.
     let i = c.self.inside in
-    let m : Merging = record { area = i.area; held = i.heads; strands = i.sources.items; waiting = i.waiting.items } in
+    let m : Merging = record { raw_box = i.raw_box; held = i.heads; strands = i.sources.items; waiting = i.waiting.items } in
     let sound : IsSoundMerging m [] = subst (λ (m : Merging). IsSoundMerging m []) (sym c.self.view_is) (c.requires.sound honest) in
     let same : c.take.new.self ≡ i.heads = (λ j. record { down = c.in-None.ensures.direction j; heads = (c.in-None.ensures.unchanged ∙ sym c.in-None.ensures.empty) j }) in
     ap (λ (h : Held). arranged h.down (all_left h.heads (lefts m))) same ∙ end_coming i.heads.down i.heads.heads (lefts m) sound c.in-None.ensures.empty
@@ -20,7 +20,7 @@ returns-in-None-clause-empty g c = λ honest.
 pub returns-in_ok-push-in-Some-clause-given : goal.returns-in_ok-push-in-Some-clause-given
 returns-in_ok-push-in-Some-clause-given g c = λ honest.
     let i = c.self.inside in
-    let m : Merging = record { area = i.area; held = i.heads; strands = i.sources.items; waiting = i.waiting.items } in
+    let m : Merging = record { raw_box = i.raw_box; held = i.heads; strands = i.sources.items; waiting = i.waiting.items } in
     let head : Head = record { source = c.in-Some.source; rec = c.in-Some.rec } in
     let sound : IsSoundMerging m [] = subst (λ (m : Merging). IsSoundMerging m []) (sym c.self.view_is) (c.requires.sound honest) in
     ap coming_of (sym c.self.view_is)
@@ -30,7 +30,7 @@ returns-in_ok-push-in-Some-clause-given g c = λ honest.
 pub returns-in_ok-push-in-Some-clause-sound : goal.returns-in_ok-push-in-Some-clause-sound
 returns-in_ok-push-in-Some-clause-sound g c = λ honest.
     let i = c.self.inside in
-    let m : Merging = record { area = i.area; held = i.heads; strands = i.sources.items; waiting = i.waiting.items } in
+    let m : Merging = record { raw_box = i.raw_box; held = i.heads; strands = i.sources.items; waiting = i.waiting.items } in
     let head : Head = record { source = c.in-Some.source; rec = c.in-Some.rec } in
     let sound : IsSoundMerging m [] = subst (λ (m : Merging). IsSoundMerging m []) (sym c.self.view_is) (c.requires.sound honest) in
     let none : i.waiting.items ≡ [] = ap (λ (m : Merging). m.waiting) c.self.view_is ∙ c.requires.waiting in

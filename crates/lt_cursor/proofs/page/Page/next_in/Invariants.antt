@@ -4,7 +4,7 @@ use Rattle.lt_cursor.proofs.page.Page.next_in.Given as goal
 
 -- no record of the box was left out
 abbrev pub invariant-loop-alloc : goal.invariant-loop-alloc
-invariant-loop-alloc l = filter (in_box l.area) l.initial.self ≡ filter (in_box l.area) l.self
+invariant-loop-alloc l = filter (in_box l.raw_box) l.initial.self ≡ filter (in_box l.raw_box) l.self
 
 abbrev pub decreases-loop-alloc : goal.decreases-loop-alloc
 decreases-loop-alloc l = length l.self

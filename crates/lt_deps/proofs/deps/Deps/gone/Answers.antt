@@ -1,6 +1,6 @@
 use Rattle.std.proofs.Common.{◌≡◌, sym, subst, ap, ◌∙◌}
 use Rattle.std.specs.List.{prefix_len}
-use Rattle.lt_deps.specs.Closure.{has}
+use Rattle.lt_rec.specs.Closure.{has}
 use Rattle.lt_deps.specs.Kept.{StandsFor}
 use Rattle.lt_deps.proofs.Notes.{left}
 use Rattle.lt_deps.proofs.deps.Deps.gone.Goals as goal

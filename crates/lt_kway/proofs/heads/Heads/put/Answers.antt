@@ -1,4 +1,4 @@
-use Rattle.std.proofs.Common.{sym, subst}
+use Rattle.std.proofs.Common.{refl, sym, ap, subst, ◌∙◌}
 use Rattle.std.proofs.lemmas.List.Sorted.{IsPermutation-insert}
 use Rattle.lt_kway.specs.Heads.{AreRanked}
 use Rattle.lt_kway.specs.declared.head.Head.{Head}
@@ -12,9 +12,9 @@ invariant_of-self c =
     let h : Head = record { source = c.args.source; rec = c.args.rec } in
     let p = c.in-Err.ensures in
     elim c.match-insert.branch [
-      | in-Ok-insert w ↦ subst (AreRanked i.down) (sym w.in-Ok-insert.ensures.items)
-          (ranked_insert i.down i.heads.items c.as_slice.result.now c.key.result.now c.in-Err.place h c.as_slice.ensures.value c.key.ensures.value c.self.invariant p.within p.later p.earlier)
-      | in-Err-insert w ↦ subst (AreRanked i.down) (sym w.in-Err-insert.ensures.items) c.self.invariant
+      | in-Ok-insert w ↦ subst (AreRanked i.down) (sym w.in-Ok-insert.ensures.ok)
+          (ranked_insert i.down i.heads i.heads c.key.result.now c.in-Err.place h refl c.key.ensures.value c.self.invariant p.within p.later p.earlier)
+      | in-Err-insert w ↦ subst (AreRanked i.down) (sym w.in-Err-insert.ensures.unchanged) c.self.invariant
     ]
 
 pub returns-after-insert-clause-ok : goal.returns-after-insert-clause-ok
@@ -22,7 +22,7 @@ returns-after-insert-clause-ok c =
     let i = c.self.inside in
     let h : Head = record { source = c.args.source; rec = c.args.rec } in
     elim c.match-insert.branch [
-      | in-Ok-insert w ↦ rw (w.result-is, w.in-Ok-insert.ensures.items, ← c.self.view_is) (IsPermutation-insert i.heads.items c.in-Err.place h)
+      | in-Ok-insert w ↦ rw (w.result-is, w.in-Ok-insert.ensures.ok, ← c.self.view_is) (IsPermutation-insert i.heads c.in-Err.place h)
       | in-Err-insert w ↦ rw w.result-is tt
     ]
 
@@ -32,7 +32,7 @@ returns-after-insert-clause-distinct c =
     let h : Head = record { source = c.args.source; rec = c.args.rec } in
     let p = c.in-Err.ensures in
     elim c.match-insert.branch [
-      | in-Ok-insert w ↦ rw (w.result-is, ← c.self.view_is) (none_has i.down i.heads.items c.as_slice.result.now c.key.result.now c.in-Err.place h c.as_slice.ensures.value c.key.ensures.value c.self.invariant p.within p.later p.earlier)
+      | in-Ok-insert w ↦ rw (w.result-is, ← c.self.view_is) (none_has i.down i.heads i.heads c.key.result.now c.in-Err.place h refl c.key.ensures.value c.self.invariant p.within p.later p.earlier)
       | in-Err-insert w ↦ rw w.result-is tt
     ]
 
@@ -43,5 +43,11 @@ returns-after-insert-clause-cause c =
     let p = c.in-Err.ensures in
     elim c.match-insert.branch [
       | in-Ok-insert w ↦ rw w.result-is tt
-      | in-Err-insert w ↦ rw (w.result-is, ← c.self.view_is) (none_has i.down i.heads.items c.as_slice.result.now c.key.result.now c.in-Err.place h c.as_slice.ensures.value c.key.ensures.value c.self.invariant p.within p.later p.earlier)
+      | in-Err-insert w ↦ rw (w.result-is, ← c.self.view_is) (none_has i.down i.heads i.heads c.key.result.now c.in-Err.place h refl c.key.ensures.value c.self.invariant p.within p.later p.earlier)
     ]
+
+pub returns-in-Ok-clause-cause : goal.returns-in-Ok-clause-cause
+returns-in-Ok-clause-cause c =
+    let found = c.in-Ok.ensures.found in
+    let head = c.get-held.result.now in
+    rw (← c.self.view_is) (c.in-Ok.place, head, found.0, sym (c.get-held.ensures head), (refl, ap (λ (h : Head). h.rec.key) (c.get-held.ensures head) ∙ found.1 head ∙ c.key.ensures.value))

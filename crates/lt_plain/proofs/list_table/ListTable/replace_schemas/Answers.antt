@@ -1,7 +1,7 @@
 use Rattle.std.proofs.Common.{◌≡◌, ℕ, ◌+◌, ◌++◌, ◌∷◌, [], length-append, sym, ◌∙◌, ap, subst}
 use Rattle.lt_schema.specs.Versions.{newest_version}
-use Rattle.lt_lang.specs.declared.command.Command.TheVariants.{Alter}
-use Rattle.lt_reply.specs.declared.reply.Reply.TheVariants.{Version}
+use Rattle.lt_command.specs.declared.command.Command.TheVariants.{Alter}
+use Rattle.lt_command.specs.declared.reply.Reply.TheVariants.{Version}
 use Rattle.lt_model.specs.History.{Opening}
 use Rattle.lt_plain.specs.Table.{Answers, with_change}
 use Rattle.lt_plain.proofs.Steps.{answers_version}

@@ -1,6 +1,6 @@
 use Rattle.std.proofs.Common.{◌≡◌, ◌≤◌, ◌+◌, ◌++◌, ◌∷◌, [], sym, ◌∙◌, ap, subst, rules}
 use Rattle.lt_schema.specs.Versions.{SchemaVersions}
-use Rattle.lt_reply.specs.declared.reply.Reply.{Reply}
+use Rattle.lt_command.specs.declared.reply.Reply.{Reply}
 use Rattle.lt_model.specs.History.{Opening}
 use Rattle.lt_plain.specs.Table.{IsUndamaged}
 use Rattle.lt_serve.specs.Kept.{head_of, AllTell}

@@ -1,5 +1,5 @@
 use Rattle.std.proofs.Common.{arith}
-use Rattle.lt_serve.proofs.Told.{used_one}
+use Rattle.lt_serve.proofs.Replied.{used_one}
 use Rattle.lt_serve.proofs.Renewing.{stays_none, renewed, tell_still, tell_published}
 use Rattle.lt_serve.proofs.store.Store.publish.Goals as goal
 

@@ -4,5 +4,5 @@ use Rattle.lt_layout.specs.Spelling.{totals_of, listed_totals}
 use Rattle.lt_tablet.specs.Loaded.{Loaded, records_in}
 use Rattle.lt_tablet.proofs.fresh.Fresh.listed.Goals as goal
 
-pub returns-clause-told : goal.returns-clause-told
-returns-clause-told g c = λ honest. ap (λ (l : Listed). listed_totals l) c.self.invariant.0 ∙ (sym (c.self.invariant.2 honest).totals ∙ ap (λ (t : Loaded). totals_of (records_in t)) c.self.view_is)
+pub returns-clause-honest : goal.returns-clause-honest
+returns-clause-honest g c = λ honest. ap (λ (l : Listed). listed_totals l) c.self.invariant.0 ∙ (sym (c.self.invariant.2 honest).totals ∙ ap (λ (t : Loaded). totals_of (records_in t)) c.self.view_is)

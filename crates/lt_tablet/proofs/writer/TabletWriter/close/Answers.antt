@@ -48,12 +48,12 @@ whole-requires-clause-listing g c κs within =
     let totals : listed_totals c.listing-listed.result ≡ c.self.inside.survey.totals = c.listing-listed.ensures.totals ∙ c.totals-2.ensures in
     let some : 0 < c.self.inside.survey.totals.rows = omega (arith, c.requires.some, ap (λ (w : Writing). w.found.totals.rows) c.self.view_is) in
     let cut : IsCut g.V.Device.honest old c.requires.cut.0 c.requires.cut.1 = subst (λ (w : Writing). IsCut g.V.Device.honest w c.requires.cut.0 c.requires.cut.1) (sym c.self.view_is) c.requires.cut.2 in
-    let told = closed_listing g.V.Device.honest old c.listing-listed.result c.requires.cut.0 c.requires.cut.1 cut some totals c.listing-listed.ensures.file c.listing-listed.ensures.period in
+    let listing = closed_listing g.V.Device.honest old c.listing-listed.result c.requires.cut.0 c.requires.cut.1 cut some totals c.listing-listed.ensures.file c.listing-listed.ensures.period in
     record {
       number_is = refl;
       period_is = refl;
-      low_is = subst (λ (p : Stretch). InPeriod p c.listing-listed.result.low) (sym c.listing-listed.ensures.period) told.low_is;
-      high_is = subst (λ (p : Stretch). InPeriod p c.listing-listed.result.high) (sym c.listing-listed.ensures.period) told.high_is;
+      low_is = subst (λ (p : Stretch). InPeriod p c.listing-listed.result.low) (sym c.listing-listed.ensures.period) listing.low_is;
+      high_is = subst (λ (p : Stretch). InPeriod p c.listing-listed.result.high) (sym c.listing-listed.ensures.period) listing.high_is;
     }
 
 pub returns-clause-written : goal.returns-clause-written
@@ -90,8 +90,8 @@ returns-clause-listed g c =
     let parts = c.in_ok-parts.ensures.exact ∙ parts_same c.self.inside.offset (length c.as_slice-2.result.now) (c.self.inside.offset + length c.as_slice-3.result.now) (length c.as_slice-4.result.now) c.self.inside.offset (length c.self.inside.index.items) (c.self.inside.offset + length (flat_map entry_spelled c.self.inside.index.items)) (length c.in_ok-filter.filter) refl (ap length c.as_slice-2.ensures.value) (ap (λ (x : List ℕ). c.self.inside.offset + length x) (c.as_slice-3.ensures.value ∙ idx)) (ap length c.as_slice-4.ensures) in
     let totals : listed_totals c.listing-listed.result ≡ c.self.inside.survey.totals = c.listing-listed.ensures.totals ∙ c.totals-2.ensures in
     let some : 0 < c.self.inside.survey.totals.rows = omega (arith, c.requires.some, ap (λ (w : Writing). w.found.totals.rows) c.self.view_is) in
-    let told = closed_listing g.V.Device.honest c.args.self c.listing-listed.result c.requires.cut.0 c.requires.cut.1 c.requires.cut.2 c.requires.some (totals ∙ ap (λ (w : Writing). w.found.totals) c.self.view_is) (c.listing-listed.ensures.file ∙ ap (λ (w : Writing). w.number) c.self.view_is) (c.listing-listed.ensures.period ∙ ap (λ (w : Writing). w.period) c.self.view_is) in
-    IfOk-weaker c.whole.result _ _ (λ fresh e. subst (λ (t : Loaded). IsListing t.listed c.args.self.number c.args.self.period) (sym e) told) c.whole.ensures.value
+    let listing = closed_listing g.V.Device.honest c.args.self c.listing-listed.result c.requires.cut.0 c.requires.cut.1 c.requires.cut.2 c.requires.some (totals ∙ ap (λ (w : Writing). w.found.totals) c.self.view_is) (c.listing-listed.ensures.file ∙ ap (λ (w : Writing). w.number) c.self.view_is) (c.listing-listed.ensures.period ∙ ap (λ (w : Writing). w.period) c.self.view_is) in
+    IfOk-weaker c.whole.result _ _ (λ fresh e. subst (λ (t : Loaded). IsListing t.listed c.args.self.number c.args.self.period) (sym e) listing) c.whole.ensures.value
 
 pub returns-clause-cause : goal.returns-clause-cause
 returns-clause-cause g c = record { later = c.in_ok-reader.ensures.cause.later; failed = λ e. absurd (c.whole.ensures.no_fault e) }

@@ -1,0 +1,5 @@
+mod dependencies;
+mod filters;
+mod periods;
+mod plans;
+mod records;

@@ -1,0 +1,2 @@
+mod spelling;
+mod stopping;

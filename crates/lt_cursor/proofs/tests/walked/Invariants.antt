@@ -1,5 +1,0 @@
-use Rattle.lt_cursor.proofs.tests.walked.Given as goal
-
--- the ledger that the blank stands for
-abbrev pub ghosts-shown : goal.ghosts-shown
-ghosts-shown a = record { name = a.blank.name; parts = a.blank.parts }

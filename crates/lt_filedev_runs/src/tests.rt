@@ -1,0 +1,171 @@
+ghost use Rattle.std.specs.Prelude.{◌<◌, IfOk};
+
+use lt_filedev::{FileDevice, FileDir, FileReader, OpenError};
+use lt_io::{Device, DeviceError};
+use std::fs;
+use std::io::ErrorKind;
+use std::os::unix::fs::symlink;
+use std::test::Fail;
+
+type Real = FileDevice<HostRuntime>;
+
+/// The bytes in two parts as a sealed file of the next free number.
+fn sealed(device: &mut Real, dir: &mut FileDir, bytes: &[u8]) -> Result<FileReader, Fail>
+    ensures { IfOk result (λ reader. reader.number < dir.new.ceiling) }
+{
+    let file = device.list(dir)?.ceiling;
+    if file >= 1 << 62 {
+        return Err(Fail::new("no number is left"));
+    }
+    let lent = Real::lend(dir, file);
+    let mut pen = device.create(lent).ok().ok_or("no pen")?;
+    let (front, rest) = bytes.split_at(bytes.len() / 2);
+    device.append(&mut pen, front)?;
+    device.append(&mut pen, rest)?;
+    Ok(device.seal(pen)?)
+}
+
+/// Whether all the reader's bytes are these.
+fn has(device: &mut Real, reader: &FileReader, bytes: &[u8]) -> Result<bool, Fail> {
+    let length = Real::length(reader);
+    Ok(device.read_at(reader, 0, length)?.as_slice() == bytes)
+}
+
+/// Whether the file is there and has these bytes.
+fn holds(device: &mut Real, dir: &FileDir, file: u64, bytes: &[u8]) -> Result<bool, Fail> {
+    match device.fetch(dir, file)? {
+        Some(reader) => has(device, &reader, bytes),
+        None => Ok(false),
+    }
+}
+
+/// Makes the file the descriptor, and says whether its bytes are read as that.
+fn points(device: &mut Real, dir: &mut FileDir, reader: &FileReader) -> Result<bool, Fail> {
+    device.ready(dir)?;
+    device.point(dir, reader)?;
+    device.settle(dir)?;
+    match device.descriptor(dir)? {
+        Some(bytes) => has(device, reader, bytes.as_slice()),
+        None => Ok(false),
+    }
+}
+
+#[test]
+fn a_file_is_there_from_its_entering_to_its_removal(rt: HostRuntime) -> Result<(), Fail> {
+    let mut dir = FileDir::make(&rt, "entered")?;
+    let mut device = FileDevice::new(&rt, &dir)?;
+    let reader = sealed(&mut device, &mut dir, b"some bytes")?;
+    assert!(rt; device.list(&dir)?.files.is_empty(), "sealed");
+    assert!(rt; device.fetch(&dir, 0)?.is_none(), "sealed");
+    device.enter(&mut dir, &reader)?;
+    assert_eq!(rt; device.list(&dir)?.files.as_slice(), [0].as_slice());
+    assert!(rt; holds(&mut device, &dir, 0, b"some bytes")?, "entered");
+    device.remove(&mut dir, 0)?;
+    device.remove(&mut dir, 0)?;
+    assert!(rt; device.fetch(&dir, 0)?.is_none(), "removed");
+    assert!(rt; has(&mut device, &reader, b"some bytes")?, "removed");
+    assert!(rt; device.first_trouble().is_none());
+    Ok(())
+}
+
+#[test]
+fn a_descriptor_takes_the_place_of_another(rt: HostRuntime) -> Result<(), Fail> {
+    let mut dir = FileDir::make(&rt, "pointed")?;
+    let mut device = FileDevice::new(&rt, &dir)?;
+    assert!(rt; device.descriptor(&dir)?.is_none());
+    let first = sealed(&mut device, &mut dir, b"the first")?;
+    assert!(rt; points(&mut device, &mut dir, &first)?, "a sealed file");
+    let second = sealed(&mut device, &mut dir, b"the second")?;
+    device.enter(&mut dir, &second)?;
+    assert!(rt; points(&mut device, &mut dir, &second)?, "an entered file");
+    assert!(rt;
+        holds(&mut device, &dir, 1, b"the second")?,
+        "it keeps its name"
+    );
+    let third = sealed(&mut device, &mut dir, b"the third")?;
+    device.enter(&mut dir, &third)?;
+    let found = device.fetch(&dir, 2)?.ok_or("it is there")?;
+    assert!(rt;
+        points(&mut device, &mut dir, &found)?,
+        "a file that was found"
+    );
+    assert!(rt; device.first_trouble().is_none());
+    Ok(())
+}
+
+#[test]
+fn a_folder_is_open_once(rt: HostRuntime) -> Result<(), Fail> {
+    let dir = FileDir::make(&rt, "locked")?;
+    let again = FileDir::make(&rt, "locked");
+    assert!(rt; matches!(&again, Err(OpenError::InUse)));
+    drop(dir);
+    assert!(rt; FileDir::make(&rt, "locked").is_ok());
+    Ok(())
+}
+
+#[test]
+fn names_of_others_are_left_alone(rt: HostRuntime) -> Result<(), Fail> {
+    fs::create_dir(&rt, "shared")?;
+    fs::write(&rt, "shared/notes", "mine")?;
+    for name in ["007", "-1", "4611686018427387904", "18446744073709551616"] {
+        fs::write(
+            &rt,
+            format!(in rt.alloc(); "shared/{name}")?.as_str(),
+            "mine",
+        )?;
+    }
+    let mut dir = FileDir::make(&rt, "shared")?;
+    let mut device = FileDevice::new(&rt, &dir)?;
+    assert!(rt; device.list(&dir)?.files.is_empty(), "no name of a file");
+    symlink(&rt, "notes", "shared/vashmoon-0.new")?;
+    let reader = sealed(&mut device, &mut dir, b"ours")?;
+    device.enter(&mut dir, &reader)?;
+    assert!(rt; holds(&mut device, &dir, 0, b"ours")?);
+    assert_eq!(rt; fs::read_to_string(&rt, "shared/notes")?.as_str(), "mine");
+    assert_eq!(rt;
+        fs::read_dir(&rt, "shared")?.count(),
+        7,
+        "all of them and the lock"
+    );
+    Ok(())
+}
+
+/// Whether the first trouble that the device met is told so.
+fn tells(rt: &HostRuntime, device: &Real, text: &str) -> Result<bool, Fail> {
+    match device.first_trouble() {
+        Some(trouble) => Ok(format!(in rt.alloc(); "{trouble}")?.as_str() == text),
+        None => Ok(false),
+    }
+}
+
+#[test]
+fn what_stands_in_the_way_is_told(rt: HostRuntime) -> Result<(), Fail> {
+    fs::create_dir(&rt, "blocked")?;
+    fs::create_dir(&rt, "blocked/DESCRIPTOR")?;
+    fs::create_dir(&rt, "blocked/5")?;
+    let dir = FileDir::open(&rt, "blocked")?;
+    let mut device = FileDevice::new(&rt, &dir)?;
+    assert!(rt; device.descriptor(&dir) == Err(DeviceError::Failed));
+    assert!(rt; matches!(&device.fetch(&dir, 5), Err(DeviceError::Failed)));
+    assert!(rt; tells(&rt, &device, "DESCRIPTOR: not a file")?);
+    fs::write(&rt, "a file", "")?;
+    let refused = FileDir::open(&rt, "a file");
+    assert!(rt;
+        matches!(&refused, Err(OpenError::System(error)) if error.kind() == ErrorKind::NotADirectory)
+    );
+    Ok(())
+}
+
+#[test]
+fn a_folder_that_is_not_there_holds_nothing(rt: HostRuntime) -> Result<(), Fail> {
+    let mut dir = FileDir::open(&rt, "nowhere")?;
+    let mut device = FileDevice::new(&rt, &dir)?;
+    device.ready(&mut dir)?;
+    device.settle(&mut dir)?;
+    assert!(rt; device.descriptor(&dir)?.is_none());
+    assert!(rt; device.list(&dir)?.files.is_empty());
+    let lent = Real::lend(&mut dir, 0);
+    assert!(rt; device.create(lent).is_err());
+    assert!(rt; !fs::exists(&rt, "nowhere")?);
+    Ok(())
+}

@@ -1,0 +1,4 @@
+mod blocks;
+mod files;
+mod reading;
+mod writing;

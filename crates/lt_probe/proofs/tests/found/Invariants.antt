@@ -1,5 +1,0 @@
-use Rattle.lt_probe.proofs.tests.found.Given as goal
-
--- the ledger that the blank stands for
-abbrev pub ghosts-counted : goal.ghosts-counted
-ghosts-counted a = record { name = a.blank.name; parts = a.blank.parts }

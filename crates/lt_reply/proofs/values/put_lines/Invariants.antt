@@ -1,0 +1,8 @@
+use Rattle.std.proofs.Common.{◌≡◌, ◌++◌, take}
+use Rattle.std.specs.List.{flat_map}
+use Rattle.lt_reply.specs.Texts.{row_line}
+use Rattle.lt_reply.proofs.values.put_lines.Given as goal
+
+-- so far the texts of the first ones stand at the end
+abbrev pub invariant-loop-at : goal.invariant-loop-at
+invariant-loop-at l = l.out.items ≡ l.initial.out.items ++ flat_map row_line (take l.at l.rows)

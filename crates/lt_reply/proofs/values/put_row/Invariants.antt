@@ -1,0 +1,9 @@
+use Rattle.std.proofs.Common.{◌≡◌, ◌++◌, take}
+use Rattle.std.specs.Prelude.{codes}
+use Rattle.std.specs.List.{flat_map}
+use Rattle.lt_reply.specs.Texts.{spaced_value}
+use Rattle.lt_reply.proofs.values.put_row.Given as goal
+
+-- so far the texts of the first ones stand at the end
+abbrev pub invariant-loop-value : goal.invariant-loop-value
+invariant-loop-value l = l.out.items ≡ l.initial.out.items ++ flat_map spaced_value (take l.value-index l.value-items)

@@ -1,8 +1,0 @@
-use Rattle.std.proofs.Common.{◌≡◌, ◌++◌, take}
-use Rattle.std.specs.List.{flat_map}
-use Rattle.lt_reply.specs.Texts.{spaced_value}
-use Rattle.lt_reply.proofs.values.put_values.Given as goal
-
--- so far the texts of the first ones stand at the end
-abbrev pub invariant-loop-value : goal.invariant-loop-value
-invariant-loop-value l = l.out.items ≡ l.fn.out.items ++ flat_map spaced_value (take l.value-index l.values)

@@ -1,4 +1,0 @@
-mod descriptors;
-mod files;
-mod reading;
-mod writing;

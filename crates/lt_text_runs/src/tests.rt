@@ -1,0 +1,5 @@
+mod commands;
+mod lines;
+mod replies;
+mod rows;
+mod schemas;
