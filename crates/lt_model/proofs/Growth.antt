@@ -11,7 +11,7 @@ use Rattle.lt_command.specs.declared.reply.Reply.TheVariants.{BadLine}
 use Rattle.lt_model.specs.History.{Entry, row_entry, bound_entry, schema_entry, kept_entry, History, front, extended}
 use Rattle.lt_model.specs.Legal.{IsLegal}
 use Rattle.lt_model.specs.Step.{IsStep}
-use Rattle.lt_model.specs.Session.{Mark, seen_after, IsMoment, IsSession, CommandAnswered, LineAnswered, LinesAnswered, AddedByOneLine, HasOrigin}
+use Rattle.lt_model.specs.Session.{Mark, seen_after, IsMoment, Workers, IsSession, CommandAnswered, LineAnswered, LinesAnswered, AddedByOneLine, HasOrigin}
 use Rattle.lt_model.specs.Growing.{LieEndToEnd, seen_after_all, SoFar}
 use Rattle.lt_model.proofs.Fronts.{front-extended, front-all, Stand-extended, Stand-at_end}
 
@@ -109,8 +109,8 @@ SoFar-bad clock began lines replies h client at so_far =
     (record { reply_is = refl; stays = (refl, refl) }) (rw nothing so_far.legal))
 
 -- a session of nobody
-pub IsSession-nobody : (clock : ℕ → Type 0) (h : History) → IsLegal h → IsSession clock (length h.entries) [] [] h
-IsSession-nobody clock h legal = record {
+pub IsSession-nobody : (clock : ℕ → Type 0) (workers : Workers) (h : History) → IsLegal h → IsSession clock workers (length h.entries) [] [] h
+IsSession-nobody clock workers h legal = record {
   legal = legal;
   began_within = omega arith;
   marks = [];
@@ -172,22 +172,22 @@ AddedByOneLine-one marks entry one = record {
 }
 
 -- an entry that exactly one line added has its origin
-HasOrigin-by_line : (clock : ℕ → Type 0) (h : History) (marks : List (List Mark)) (number : ℕ) (e : Option Entry) → AddedByOneLine marks number → HasOrigin clock h marks number e
-HasOrigin-by_line clock h marks number None by_line = tt
-HasOrigin-by_line clock h marks number (Some (row_entry numbered tablet)) by_line = by_line
-HasOrigin-by_line clock h marks number (Some (schema_entry change)) by_line = by_line
-HasOrigin-by_line clock h marks number (Some (bound_entry bound)) by_line = inl by_line
-HasOrigin-by_line clock h marks number (Some (kept_entry kept)) by_line = tt
+HasOrigin-by_line : (clock : ℕ → Type 0) (workers : Workers) (h : History) (marks : List (List Mark)) (number : ℕ) (e : Option Entry) → AddedByOneLine marks number → HasOrigin clock workers h marks number e
+HasOrigin-by_line clock workers h marks number None by_line = tt
+HasOrigin-by_line clock workers h marks number (Some (row_entry numbered tablet)) by_line = by_line
+HasOrigin-by_line clock workers h marks number (Some (schema_entry change)) by_line = by_line
+HasOrigin-by_line clock workers h marks number (Some (bound_entry bound)) by_line = inl by_line
+HasOrigin-by_line clock workers h marks number (Some (kept_entry kept)) by_line = inl by_line
 
 -- a session of one client
-pub IsSession-one : (clock : ℕ → Type 0) (began : ℕ) (name : List ℕ) (lines : List Line) (replies : List Reply) (h : History)
+pub IsSession-one : (clock : ℕ → Type 0) (workers : Workers) (began : ℕ) (name : List ℕ) (lines : List Line) (replies : List Reply) (h : History)
     → SoFar clock began lines replies h
-    → IsSession clock began (record { name = name; lines = lines } ∷ []) (record { name = name; replies = replies } ∷ []) h
-IsSession-one clock began name lines replies h so_far = record {
+    → IsSession clock workers began (record { name = name; lines = lines } ∷ []) (record { name = name; replies = replies } ∷ []) h
+IsSession-one clock workers began name lines replies h so_far = record {
   legal = so_far.legal;
   began_within = omega (arith, seen_after_all-later began so_far.marks so_far.end_to_end);
   marks = so_far.marks ∷ [];
   answered = (refl, so_far.answered, tt);
-  origins = λ number after before. HasOrigin-by_line clock h (so_far.marks ∷ []) number (slice_get h.entries number)
+  origins = λ number after before. HasOrigin-by_line clock workers h (so_far.marks ∷ []) number (slice_get h.entries number)
       (AddedByOneLine-one so_far.marks number (OneOf-end_to_end began so_far.marks number so_far.end_to_end after (omega (arith, so_far.all_seen))));
 }

@@ -19,7 +19,7 @@ use Rattle.lt_schema.specs.Versions.{newest_version}
 use Rattle.lt_model.specs.Readings.{rows_in, next, schemas, since}
 use Rattle.lt_model.specs.Legal.{IsLegal, EachFollows, MayFollow}
 use Rattle.lt_model.specs.Step.{IsStep, InsertStep, ScanStep, LatestStep, AlterStep, FlushStep, TellsKept, UpkeepStep, MayPurge, TabletsStep, AddsRow}
-use Rattle.lt_model.specs.Session.{Mark, seen_after, Stand, IsSession, Client, Block, CommandAnswered, LineAnswered, LinesAnswered, ClientsAnswered, mark_of, Adds, AddedByOneLine, HasOrigin}
+use Rattle.lt_model.specs.Session.{Mark, seen_after, Stand, Workers, IsSession, Client, Block, CommandAnswered, LineAnswered, LinesAnswered, ClientsAnswered, mark_of, Adds, AddedByOneLine, HasOrigin}
 use Rattle.lt_model.specs.Shown.{line_at, reply_at, Inserts, IsAdded, IsShownOnce, IsGivenSince}
 
 slice_get-drop : {X : Type 0} (n : ℕ) (xs : List X) (i : ℕ) → slice_get (drop n xs) i ≡ slice_get xs (n + i)
@@ -336,9 +336,9 @@ given h began row seq legal added =
       below = omega (arith, (rw whole at counts));
     }
 
-pub replies-show : (clock : ℕ → Type 0) (began : ℕ) (clients : List Client) (blocks : List Block) (h : History) (c l : ℕ) (row : List Value) (seq : ℕ)
-    → IsSession clock began clients blocks h → Inserts clients blocks c l row seq → IsAdded h began row seq × IsGivenSince h began seq
-replies-show clock began clients blocks h c l row seq session inserts =
+pub replies-show : (clock : ℕ → Type 0) (workers : Workers) (began : ℕ) (clients : List Client) (blocks : List Block) (h : History) (c l : ℕ) (row : List Value) (seq : ℕ)
+    → IsSession clock workers began clients blocks h → Inserts clients blocks c l row seq → IsAdded h began row seq × IsGivenSince h began seq
+replies-show clock workers began clients blocks h c l row seq session inserts =
     let p = placed clock h began clients blocks session.marks c l row seq session.answered inserts in
     (p.added, given h began row seq session.legal p.added)
 
@@ -391,13 +391,13 @@ given_row h began seq legal given =
       | inr late ↦ record { place = r.place; numbered = r.numbered; tablet = r.tablet; there = r.there; no_earlier = late; number = is }
     ]
 
-row_origin : (clock : ℕ → Type 0) (h : History) (marks : List (List Mark)) (k : ℕ) (numbered : Numbered) (tablet : ℕ) → HasOrigin clock h marks k (slice_get h.entries k)
+row_origin : (clock : ℕ → Type 0) (workers : Workers) (h : History) (marks : List (List Mark)) (k : ℕ) (numbered : Numbered) (tablet : ℕ) → HasOrigin clock workers h marks k (slice_get h.entries k)
     → slice_get h.entries k ≡ Some (row_entry numbered tablet) → AddedByOneLine marks k
-row_origin clock h marks k numbered tablet origin there = subst (HasOrigin clock h marks k) there origin
+row_origin clock workers h marks k numbered tablet origin there = subst (HasOrigin clock workers h marks k) there origin
 
-no_other_line : (clock : ℕ → Type 0) (began : ℕ) (clients : List Client) (blocks : List Block) (h : History) (session : IsSession clock began clients blocks h) (seq : ℕ) (r : GivenRow h began seq)
+no_other_line : (clock : ℕ → Type 0) (workers : Workers) (began : ℕ) (clients : List Client) (blocks : List Block) (h : History) (session : IsSession clock workers began clients blocks h) (seq : ℕ) (r : GivenRow h began seq)
     (one : AddedByOneLine session.marks r.place) (c l : ℕ) (other : List Value) → Inserts clients blocks c l other seq → (c ≡ one.client) × (l ≡ one.line)
-no_other_line clock began clients blocks h session seq r one c l other inserts =
+no_other_line clock workers began clients blocks h session seq r one c l other inserts =
     let p = placed clock h began clients blocks session.marks c l other seq session.answered inserts in
     let here : r.numbered.seq ≡ next (front r.place h) = number_at h r.place r.numbered r.tablet session.legal r.there in
     let its : Numbered = record { seq = seq; ver = p.added.ver; row = other } in
@@ -406,17 +406,17 @@ no_other_line clock began clients blocks h session seq r one c l other inserts =
     let same : p.added.entry ≡ r.place = same_place h.entries p.added.entry r.place its r.numbered p.added.tablet r.tablet p.added.there r.there (omega arith) in
     one.no_other c l (subst (λ (entry : ℕ). Adds session.marks entry c l) same p.adds)
 
-pub numbers-shown : (clock : ℕ → Type 0) (began : ℕ) (clients : List Client) (blocks : List Block) (h : History) (seq : ℕ)
-    → IsSession clock began clients blocks h → IsGivenSince h began seq → IsShownOnce clients blocks seq
-numbers-shown clock began clients blocks h seq session given =
+pub numbers-shown : (clock : ℕ → Type 0) (workers : Workers) (began : ℕ) (clients : List Client) (blocks : List Block) (h : History) (seq : ℕ)
+    → IsSession clock workers began clients blocks h → IsGivenSince h began seq → IsShownOnce clients blocks seq
+numbers-shown clock workers began clients blocks h seq session given =
     let r = given_row h began seq session.legal given in
     let within : r.place < length h.entries = slice_get_within h.entries r.place (row_entry r.numbered r.tablet) r.there in
-    let one = row_origin clock h session.marks r.place r.numbered r.tablet (session.origins r.place r.no_earlier within) r.there in
+    let one = row_origin clock workers h session.marks r.place r.numbered r.tablet (session.origins r.place r.no_earlier within) r.there in
     record {
       client = one.client;
       line = one.line;
       row = r.numbered.row;
       inserts = subst (λ (n : ℕ). Inserts clients blocks one.client one.line r.numbered.row n) r.number
           (inserts_by_mark clock h began clients blocks session.marks one.client one.line r.place r.numbered r.tablet session.answered one.adds r.there);
-      no_other = no_other_line clock began clients blocks h session seq r one;
+      no_other = no_other_line clock workers began clients blocks h session seq r one;
     }

@@ -14,7 +14,7 @@ use Rattle.lt_model.specs.Legal.{IsOpening, IsLegal, MayFollow, KeysDiffer}
 use Rattle.lt_model.specs.Answer.{IsAnswer, IsLatest}
 use Rattle.lt_model.specs.Verdict.{Verdict, accepted, IsVerdict, HasNewKey}
 use Rattle.lt_model.specs.Step.{IsStep}
-use Rattle.lt_model.specs.Session.{IsMoment, IsSession, Client, Block, Stand}
+use Rattle.lt_model.specs.Session.{IsMoment, Workers, IsSession, Client, Block, Stand}
 use Rattle.lt_model.specs.Growing.{SoFar}
 use Rattle.lt_model.specs.Crash.{Durable, IsCrash}
 use Rattle.lt_model.specs.Shown.{Inserts, IsAdded, IsShownOnce, IsGivenSince}
@@ -138,22 +138,22 @@ GrowsByABadLine = (shows : ℕ → Bool) (began : ℕ) (lines : List Line) (repl
 
 -- at whatever line it ends, it is a session of that client alone
 abbrev pub IsASessionOfOne : Type 0
-IsASessionOfOne = (shows : ℕ → Bool) (began : ℕ) (name : List ℕ) (lines : List Line) (replies : List Reply) (h : History)
+IsASessionOfOne = (shows : ℕ → Bool) (workers : Workers) (began : ℕ) (name : List ℕ) (lines : List Line) (replies : List Reply) (h : History)
     → SoFar (clock_of shows) began lines replies h
-    → IsSession (clock_of shows) began (record { name = name; lines = lines } ∷ []) (record { name = name; replies = replies } ∷ []) h
+    → IsSession (clock_of shows) workers began (record { name = name; lines = lines } ∷ []) (record { name = name; replies = replies } ∷ []) h
 
 abbrev pub IsASessionOfNobody : Type 0
-IsASessionOfNobody = (shows : ℕ → Bool) (h : History) → IsLegal h → IsSession (clock_of shows) (length h.entries) [] [] h
+IsASessionOfNobody = (shows : ℕ → Bool) (workers : Workers) (h : History) → IsLegal h → IsSession (clock_of shows) workers (length h.entries) [] [] h
 
 -- each number in a reply was given since the session began, to the row that its line asks for
 abbrev pub RepliesShowTheirRows : Type 0
-RepliesShowTheirRows = (shows : ℕ → Bool) (began : ℕ) (clients : List Client) (blocks : List Block) (h : History) (client line : ℕ) (row : List Value) (seq : ℕ)
-    → IsSession (clock_of shows) began clients blocks h → Inserts clients blocks client line row seq → IsAdded h began row seq × IsGivenSince h began seq
+RepliesShowTheirRows = (shows : ℕ → Bool) (workers : Workers) (began : ℕ) (clients : List Client) (blocks : List Block) (h : History) (client line : ℕ) (row : List Value) (seq : ℕ)
+    → IsSession (clock_of shows) workers began clients blocks h → Inserts clients blocks client line row seq → IsAdded h began row seq × IsGivenSince h began seq
 
 -- each number that was given since is in one reply
 abbrev pub EachNumberIsShown : Type 0
-EachNumberIsShown = (shows : ℕ → Bool) (began : ℕ) (clients : List Client) (blocks : List Block) (h : History) (seq : ℕ)
-    → IsSession (clock_of shows) began clients blocks h → IsGivenSince h began seq → IsShownOnce clients blocks seq
+EachNumberIsShown = (shows : ℕ → Bool) (workers : Workers) (began : ℕ) (clients : List Client) (blocks : List Block) (h : History) (seq : ℕ)
+    → IsSession (clock_of shows) workers began clients blocks h → IsGivenSince h began seq → IsShownOnce clients blocks seq
 
 -- what a stop leaves of a front is what it leaves of the history, where no row since is numbered below what is durable
 abbrev pub CrashesByFront : Type 0

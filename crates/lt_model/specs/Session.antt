@@ -1,5 +1,5 @@
 -- What a session of clients is: each line is answered at a front of one history, and adds its own entries to it.
-use Rattle.std.specs.Prelude.{ℕ, ◌+◌, ◌≡◌, ◌≤◌, ◌<◌, ◌⊎◌, ⊤, Bool, false, List, [], ◌∷◌, ◌++◌, length, take, drop, map, filter, nat_eq, Option, Some, None, IsSomeAnd, slice_get, option_and_then, if◌then◌else◌}
+use Rattle.std.specs.Prelude.{ℕ, ◌+◌, ◌≡◌, ◌≤◌, ◌<◌, ◌⊎◌, IsTrue, ⊤, Bool, false, List, [], ◌∷◌, ◌++◌, length, take, drop, map, filter, nat_eq, Option, Some, None, IsSomeAnd, slice_get, option_and_then, if◌then◌else◌}
 use Rattle.std.specs.List.{list_any}
 use Rattle.std.specs.Cmp.Lexicographic.{pointwise}
 use Rattle.lt_command.specs.declared.command.Command.{Command}
@@ -87,22 +87,48 @@ pub record AddedByOneLine (marks : List (List Mark)) (entry : ℕ) : Type 0 wher
   pub adds : Adds marks entry client line
   pub no_other : (c l : ℕ) → Adds marks entry c l → (c ≡ client) × (l ≡ line)
 
--- Who added an entry: a row or a change of the schema exactly one line; a raised bound is the one at its front, for a moment
--- of a line or one that the clock may show; what is durable may be said by anybody.
-abbrev pub HasOrigin : (ℕ → Type 0) → History → List (List Mark) → ℕ → Option Entry → Type 0
-HasOrigin clock h marks number None = ⊤
-HasOrigin clock h marks number (Some (row_entry numbered tablet)) = AddedByOneLine marks number
-HasOrigin clock h marks number (Some (schema_entry change)) = AddedByOneLine marks number
-HasOrigin clock h marks number (Some (bound_entry bound)) = AddedByOneLine marks number ⊎ ((now : ℕ) × clock now × (bound ≡ since (front number h) now))
-HasOrigin clock h marks number (Some (kept_entry kept)) = ⊤
+-- no line added the entry
+abbrev pub NoLineAdds : List (List Mark) → ℕ → Type 0
+NoLineAdds marks entry = (client line : ℕ) → ¬ Adds marks entry client line
+
+-- who adds to a history beside the lines: a flusher, a merger, and the flush at a session's end
+pub record Workers : Type 0 where
+  pub flusher : Bool
+  pub merger : Bool
+  pub last_flush : Bool
+
+-- the lines alone add to it
+abbrev pub no_workers : Workers
+no_workers = record { flusher = false; merger = false; last_flush = false }
+
+-- the merger raised the bound, for a moment that the clock may show
+pub record AddedByMerger (clock : ℕ → Type 0) (workers : Workers) (h : History) (marks : List (List Mark)) (number bound : ℕ) : Type 0 where
+  pub runs : IsTrue workers.merger
+  pub no_line : NoLineAdds marks number
+  pub now : ℕ
+  pub shown : clock now
+  pub bound_is : bound ≡ since (front number h) now
+
+-- a flush of no line told what is durable: the flusher's, or the one at the end, whose entry is the last
+pub record AddedByFlush (workers : Workers) (h : History) (marks : List (List Mark)) (number : ℕ) : Type 0 where
+  pub runs : IsTrue workers.flusher ⊎ (IsTrue workers.last_flush × (number + 1 ≡ length h.entries))
+  pub no_line : NoLineAdds marks number
+
+-- Who added an entry: exactly one line; or, of a raised bound, the merger, and of what is durable, a flush of no line.
+abbrev pub HasOrigin : (ℕ → Type 0) → Workers → History → List (List Mark) → ℕ → Option Entry → Type 0
+HasOrigin clock workers h marks number None = ⊤
+HasOrigin clock workers h marks number (Some (row_entry numbered tablet)) = AddedByOneLine marks number
+HasOrigin clock workers h marks number (Some (schema_entry change)) = AddedByOneLine marks number
+HasOrigin clock workers h marks number (Some (bound_entry bound)) = AddedByOneLine marks number ⊎ AddedByMerger clock workers h marks number bound
+HasOrigin clock workers h marks number (Some (kept_entry kept)) = AddedByOneLine marks number ⊎ AddedByFlush workers h marks number
 
 -- A session that began at a front of the history, which it ended with.
-pub record IsSession (clock : ℕ → Type 0) (began : ℕ) (clients : List Client) (blocks : List Block) (h : History) : Type 0 where
+pub record IsSession (clock : ℕ → Type 0) (workers : Workers) (began : ℕ) (clients : List Client) (blocks : List Block) (h : History) : Type 0 where
   pub legal : IsLegal h
   pub began_within : began ≤ length h.entries
   pub marks : List (List Mark)
   pub answered : ClientsAnswered clock h began clients blocks marks
-  pub origins : (number : ℕ) → began ≤ number → number < length h.entries → HasOrigin clock h marks number (slice_get h.entries number)
+  pub origins : (number : ℕ) → began ≤ number → number < length h.entries → HasOrigin clock workers h marks number (slice_get h.entries number)
 
 -- whose line it is
 abbrev pub name_of : Line → Option (List ℕ)

@@ -12,7 +12,7 @@ use Rattle.lt_command.specs.declared.command.Line.TheVariants.{Skip, Bad, Comman
 use Rattle.lt_command.specs.declared.reply.Reply.{Reply}
 use Rattle.lt_model.specs.History.{Opening, History}
 use Rattle.lt_model.specs.Readings.{next, kept}
-use Rattle.lt_model.specs.Session.{Client, Block, Mark, LinesAnswered, IsSession, clients_of}
+use Rattle.lt_model.specs.Session.{Client, Block, Mark, LinesAnswered, no_workers, IsSession, clients_of}
 use Rattle.lt_model.specs.Growing.{SoFar, seen_after_all}
 use Rattle.lt_model.proofs.Growth.{IsSession-nobody, IsSession-one}
 use Rattle.lt_plain.specs.Table.{IsUndamaged}
@@ -47,7 +47,7 @@ nothing_answered clock h (reply ∷ replies) (mark ∷ marks) answered = absurd 
 -- the session of the lines so far, its blocks' text and its replies
 record IsWhole (clock : ℕ → Type 0) (client : Option (List ℕ)) (lines : List Line) (replies : List Reply) (h : History) : Type 0 where
   blocks : List Block
-  session : IsSession clock 0 (clients_of lines) blocks h
+  session : IsSession clock no_workers 0 (clients_of lines) blocks h
   written : block_head client ++ flat_map reply_text_of replies ≡ blocks_text blocks
   all : replies_of blocks ≡ replies
 
@@ -58,7 +58,7 @@ session_of_nobody clock lines replies h all so_far =
     let none : length h.entries ≡ 0 = sym own.all_seen ∙ ap (seen_after_all 0) nothing.1 in
     record {
       blocks = [];
-      session = subst (λ (clients : List Client). IsSession clock 0 clients [] h) (sym (clients_of-none lines all)) (subst (λ (began : ℕ). IsSession clock began [] [] h) none (IsSession-nobody clock h own.legal));
+      session = subst (λ (clients : List Client). IsSession clock no_workers 0 clients [] h) (sym (clients_of-none lines all)) (subst (λ (began : ℕ). IsSession clock no_workers began [] [] h) none (IsSession-nobody clock no_workers h own.legal));
       written = ap (flat_map reply_text_of) nothing.0;
       all = sym nothing.0;
     }
@@ -67,7 +67,7 @@ session_of_one : (clock : ℕ → Type 0) (name : List ℕ) (lines : List Line) 
     → IsWhole clock (Some name) lines replies h
 session_of_one clock name lines replies h whose all so_far = record {
   blocks = record { name = name; replies = replies } ∷ [];
-  session = subst (λ (clients : List Client). IsSession clock 0 clients (record { name = name; replies = replies } ∷ []) h) (sym (clients_of-ours name lines whose all)) (IsSession-one clock 0 name (owned lines) replies h so_far);
+  session = subst (λ (clients : List Client). IsSession clock no_workers 0 clients (record { name = name; replies = replies } ∷ []) h) (sym (clients_of-ours name lines whose all)) (IsSession-one clock no_workers 0 name (owned lines) replies h so_far);
   written = sym (append-nil (client_line name ++ flat_map reply_text_of replies));
   all = append-nil replies;
 }

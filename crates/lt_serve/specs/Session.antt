@@ -11,7 +11,7 @@ use Rattle.lt_command.specs.declared.command.Line.{Line}
 use Rattle.lt_command.specs.declared.command.Line.TheVariants.{Skip, Bad, Command as CommandLine}
 use Rattle.lt_model.specs.History.{Opening, History}
 use Rattle.lt_model.specs.Readings.{next, kept}
-use Rattle.lt_model.specs.Session.{Block, IsSession, name_of, clients_of}
+use Rattle.lt_model.specs.Session.{Block, no_workers, IsSession, name_of, clients_of}
 
 -- what the input's lines say
 abbrev pub lines_of : List ℕ → List Line
@@ -73,5 +73,5 @@ pub record IsSessionText (clock : ℕ → Type 0) (opening : Opening) (input tex
   pub blocks : List Block
   pub history : History
   pub opened : history.opening ≡ opening
-  pub session : IsSession clock 0 (clients_of (lines_of input)) blocks history
+  pub session : IsSession clock no_workers 0 (clients_of (lines_of input)) blocks history
   pub written : text ≡ blocks_text blocks ++ end_line (next history) (kept history)
