@@ -7,7 +7,8 @@ use Rattle.lt_turn.specs.declared.view.View.{View}
 use Rattle.lt_turn.specs.declared.view.Role.{Role}
 use Rattle.lt_turn.specs.declared.view.Role.TheVariants.{Vacant, Note, Idle, Holding, Level, Shut, Spent}
 use Rattle.lt_turn.specs.Lists.{numbered, of}
-use Rattle.lt_turn.specs.Rule.{Desk, free, held, level, vacant, shut, IsOpen, Sits, FitsAs, Has, DeskFits}
+use Rattle.lt_turn.specs.Rule.{Desk, free, held, level, vacant, shut, IsOpen, Has, DeskFits}
+use Rattle.lt_turn.proofs.ByRole.{Sits, FitsAs}
 use Rattle.lt_turn.proofs.Lists.{prefix_trans, every_more, of_behind}
 
 -- the lock is free, or this seat's
@@ -35,7 +36,7 @@ module _ {X : Type 0} where
   stands_by Idle desk log owner i id v by ne f = (f.1, f.2)
   stands_by Holding desk log owner i id v by ne f = absurd (ne (subst (λ (d : Desk). By d id) f.0 by))
   stands_by Level desk log owner i id v by ne f = absurd (ne (subst (λ (d : Desk). By d id) f.0 by))
-  stands_by Shut desk log owner i id v by ne f = absurd (ne (subst (λ (d : Desk). By d id) f by))
+  stands_by Shut desk log owner i id v by ne f = absurd (ne (subst (λ (d : Desk). By d id) f.0 by))
   stands_by Spent desk log owner i id v by ne f = tt
 
   pub fits_again : (r : Role) (desk : Desk) (log : List (ℕ × X)) (owner : ℕ → ℕ) (i : ℕ) (v : View X) → IsOpen desk → Bystands r log owner i v → FitsAs r desk log owner i v

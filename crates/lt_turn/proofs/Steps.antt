@@ -1,36 +1,28 @@
 -- Each step keeps the rule.
-use Rattle.std.proofs.Common.{◌≡◌, ◌≢◌, ◌⊎◌, ℕ, zero, suc, pred, ◌+◌, ◌<◌, ◌≤◌, Bool, List, [], ◌∷◌, ◌++◌, length, set, refl, sym, ap, ◌∙◌, subst, ⊎_elim, inl, inr, arith, append-nil, length-append, length-set, eq-eqb, ne_eqb, None}
-use Rattle.std.specs.Prelude.{Option, slice_index, slice_set, if◌then◌else◌, ◌==◌}
+use Rattle.std.proofs.Common.{◌≡◌, ◌≢◌, ◌⊎◌, ℕ, zero, suc, pred, ◌+◌, ◌<◌, ◌≤◌, List, [], ◌∷◌, ◌++◌, length, set, refl, sym, ap, ◌∙◌, subst, ⊎_elim, inl, inr, arith, append-nil, length-append, length-set, None}
+use Rattle.std.specs.Prelude.{Option, slice_index, slice_set}
 use mathlib.Core.Option as maybe
 use mathlib.Core.Option.{some, none, some-ne-none, some-injective}
-use mathlib.Core.List.{IsPrefix, map-append}
-use mathlib.Core.Logic.{dite}
-use native.Mathlib.Decide.{dec_le}
 use lib.ListN.{get_elem?}
-use Rattle.atomic_table.specs.Table.{State, Me, Step, Act, keeps, takes, gives, Valid, put_back, carried_after, stepped, opening, Allows, Splits, Joins, Final, Seen}
-use Rattle.atomic_table.proofs.Lists.{set_again, set_else, at_set}
+use Rattle.atomic_table.specs.Table.{State, Me, Step, Act, keeps, takes, gives, Valid, put_back, carried_after, stepped, opening, Allows}
+use Rattle.atomic_table.proofs.Lists.{set_again}
 use Rattle.lt_turn.specs.declared.view.View.{View}
 use Rattle.lt_turn.specs.declared.view.Role.{Role}
 use Rattle.lt_turn.specs.declared.view.Role.TheVariants.{Vacant, Note, Idle, Holding, Level, Shut, Spent}
-use Rattle.lt_turn.specs.Lists.{numbered, of, Every, Differ, numbers}
-use Rattle.lt_turn.specs.Rule.{Desk, free, held, level, vacant, shut, IsOpen, LockFits, HomeFits, Stocked, Sits, Accounts, FitsAs, Kept, as_role, spent, first, opened, read, raised, note, newcomer, joined, learned, opens, gives_back, tries, raises, shuts, is_numbered, learns, reads}
-use Rattle.lt_turn.proofs.Lists.{prefix_self, prefix_trans, prefix_shorter, every_append, every_more, every_both, every_number, number_every, of_other, of_behind, of_own, between, none_before, differ_append, length-numbered}
-use Rattle.lt_turn.proofs.Keeps.{By, fit_set, others_fit, sits_longer, has_set, desk_stays, desk_longer}
+use Rattle.lt_turn.specs.Lists.{numbered, of, Differ, numbers}
+use Rattle.lt_turn.specs.Rule.{Desk, free, held, level, vacant, shut, IsOpen, LockFits, Stocked, Accounts, as_role, first, opened, read, raised, opens, gives_back, tries, raises, shuts, reads}
+use Rattle.lt_turn.proofs.ByRole.{Sits, FitsAs, HomeFits, ByRole}
+use Rattle.lt_turn.proofs.Lists.{prefix_self, prefix_trans, every_more, every_both, number_every, of_other, of_behind, of_own, length-numbered}
+use Rattle.lt_turn.proofs.Keeps.{By, fit_set, others_fit, sits_longer, has_set}
 
 -- what a step is told; these tell nothing of it
-abbrev any : {S : Type 0} → Step S
+abbrev pub any : {S : Type 0} → Step S
 any = record { slots = 0; word = 0; first = 0; second = 0; said = none }
 
-at_bound : {A : Type 0} (l : List A) (i : ℕ) (a : A) → get_elem? l i ≡ some a → i < length l
+pub at_bound : {A : Type 0} (l : List A) (i : ℕ) (a : A) → get_elem? l i ≡ some a → i < length l
 at_bound [] i a e = absurd (some-ne-none a (sym e))
 at_bound (x ∷ xs) zero a e = omega arith
 at_bound (x ∷ xs) (suc i) a e = let h = at_bound xs i a e in omega arith
-
-at_end : {A : Type 0} (l : List A) (a b : A) (j : ℕ) → get_elem? (l ++ a ∷ []) j ≡ some b → (get_elem? l j ≡ some b) ⊎ ((j ≡ length l) × (a ≡ b))
-at_end [] a b zero e = inr (refl, some-injective a b e)
-at_end [] a b (suc j) e = absurd (some-ne-none b (sym e))
-at_end (x ∷ xs) a b zero e = inl e
-at_end (x ∷ xs) a b (suc j) e = ⊎_elim (λ h. inl h) (λ h. inr (ap suc h.0, h.1)) (at_end xs a b j e)
 
 by_desk : (d : Desk) (n m : ℕ) → LockFits d n → 0 < m → (d ≡ free) ⊎ ((0 < n) × LockFits d m)
 by_desk free n m h p = inl refl
@@ -58,13 +50,13 @@ module _ {H T X : Type 0} (stands : T → List X → Type 0) (value : H → Opti
   M = Me (Option H) (View X)
 
   abbrev Rule : St → Type 0
-  Rule = Kept stands value book
+  Rule = ByRole stands value book
 
   -- the rule's word on the view of the seat that steps
-  fits : (s : St) (k : Rule s) (id : ℕ) (v : View X) (r : Role) → get_elem? s.views id ≡ some v → v.role ≡ r → FitsAs r k.desk k.log k.owner id v
+  pub fits : (s : St) (k : Rule s) (id : ℕ) (v : View X) (r : Role) → get_elem? s.views id ≡ some v → v.role ≡ r → FitsAs r k.desk k.log k.owner id v
   fits s k id v r at is = subst (λ (q : Role). FitsAs q k.desk k.log k.owner id v) is (k.views_fit id v at)
 
-  freshly : (s : St) (k : Rule s) (id : ℕ) (w : View X) → (i : ℕ) → length (set s.views id w) ≤ i → (of (suc i) k.log ≡ []) × (k.owner (suc i) ≡ i)
+  pub freshly : (s : St) (k : Rule s) (id : ℕ) (w : View X) → (i : ℕ) → length (set s.views id w) ≤ i → (of (suc i) k.log ≡ []) × (k.owner (suc i) ≡ i)
   freshly s k id w i le = k.fresh i (let l = length-set s.views id w in omega arith)
 
   pub begins : Rule (opening (1 ∷ 0 ∷ []) (None ∷ []) first)
@@ -84,7 +76,11 @@ module _ {H T X : Type 0} (stands : T → List X → Type 0) (value : H → Opti
   }
     where
       one : (i : ℕ) (v : View X) → get_elem? (first ∷ []) i ≡ some v → FitsAs v.role (vacant 0) [] pred i v
-      one zero v e = subst (λ (u : View X). FitsAs u.role (vacant 0) [] pred 0 u) (some-injective first v e) (refl, refl, refl, omega arith)
+      one zero v e = subst (λ (u : View X). FitsAs u.role (vacant 0) [] pred 0 u) (some-injective first v e) (
+        refl,
+        record { seen = ([], refl); told = ([], refl); opening = refl; own = refl; own_seen = refl; ended = tt; apart = (((λ q. omega arith), tt), (tt, tt)); owner_is = refl },
+        refl,
+      )
       one (suc i) v e = absurd (some-ne-none v (sym e))
 
   -- where a turn has no value yet, all other views are spent
@@ -94,7 +90,7 @@ module _ {H T X : Type 0} (stands : T → List X → Type 0) (value : H → Opti
   only Idle i id desk desk' log log' owner v is ne f = absurd (subst IsOpen is f.0)
   only Holding i id desk desk' log log' owner v is ne f = absurd (cc (is, f.0))
   only Level i id desk desk' log log' owner v is ne f = absurd (cc (is, f.0))
-  only Shut i id desk desk' log log' owner v is ne f = absurd (cc (is, f))
+  only Shut i id desk desk' log log' owner v is ne f = absurd (cc (is, f.0))
   only Spent i id desk desk' log log' owner v is ne f = tt
 
   pub opens_turn : (slots id : ℕ) (m : M) (list : List X) (n : ℕ) → m.0 ≡ first → m.1 ≡ [] → n ≡ length list → Allows Rule slots id m 1 (λ _. n) (λ _. opens list any m n)
@@ -127,9 +123,9 @@ module _ {H T X : Type 0} (stands : T → List X → Type 0) (value : H → Opti
               own_seen = of_other (suc id) 0 list (λ e. omega arith);
               ended = tt;
               apart = (((λ e. omega arith), tt), (tt, tt));
-              owner_is = f.3;
+              owner_is = f.1.owner_is;
             },
-            ap suc (sym f.1),
+            sym (ap (λ (u : View X). u.number) is) ∙ f.2,
             refl,
           );
           fresh = λ i le. (of_other (suc i) 0 list (λ e. omega arith), (freshly s k id w i le).1);
@@ -335,229 +331,9 @@ module _ {H T X : Type 0} (stands : T → List X → Type 0) (value : H → Opti
           desk_fits = has_set s.views id Shut m.0 w at refl;
           home_fits = refl;
           views_fit = fit_set s.views id w (shut id) k.log k.owner
-              (others_fit s.views id k.desk (shut id) k.log k.log k.owner k.owner k.views_fit (subst (λ (d : Desk). By d id) (sym f.0) refl) tt (λ i v ne t. t)) refl;
+              (others_fit s.views id k.desk (shut id) k.log k.log k.owner k.owner k.views_fit (subst (λ (d : Desk). By d id) (sym f.0) refl) tt (λ i v ne t. t))
+              (refl, sits_as k.log k.owner id Shut m.0 f.1, f.2);
           fresh = freshly s k id w;
         },
         (refl, refl),
       )
-
-  pub splits_view : (id : ℕ) (v : View X) → v.role ≡ Idle → Splits Rule id v v (note v)
-  splits_view id v is s k at =
-      let f = fits s k id v Idle at is in
-      let n : ℕ = length s.views in
-      let new = k.fresh n (omega arith) in
-      subst (λ (vs : List (View X)). Rule record { words = s.words; homes = s.homes; views = vs ++ note v ∷ [] }) (sym (set_again s.views id v at)) record {
-        log = k.log;
-        desk = k.desk;
-        owner = k.owner;
-        lock = k.lock;
-        home = k.home;
-        words = k.words;
-        homes = k.homes;
-        lock_fits = k.lock_fits;
-        desk_fits = desk_longer k.desk s.views (note v ∷ []) k.desk_fits;
-        home_fits = k.home_fits;
-        views_fit = λ j u e. ⊎_elim
-            (λ (was : get_elem? s.views j ≡ some u). k.views_fit j u was)
-            (λ (t : (j ≡ length s.views) × (note v ≡ u)). subst (λ (z : ℕ × View X). FitsAs z.1.role k.desk k.log k.owner z.0 z.1) (λ i. (sym t.0 i, t.1 i)) (
-              f.0,
-              record {
-                seen = f.1.seen;
-                told = (k.log, refl);
-                opening = f.1.opening;
-                own = new.0;
-                own_seen = none_before (suc n) v.seen k.log f.1.seen new.0;
-                ended = tt;
-                apart = (((λ q. omega arith), tt), (tt, tt));
-                owner_is = new.1;
-              },
-            ))
-            (at_end s.views (note v) u j e);
-        fresh = λ i le. k.fresh i (let l = length-append s.views (note v ∷ []) in omega arith);
-      }
-
-  pub numbers_seat : (slots id : ℕ) (m : M) → m.0.role ≡ Note → Allows Rule slots id m 0 (λ n. n) (is_numbered any m)
-  numbers_seat slots id m is s k len at small =
-      let f = fits s k id m.0 Note at is in
-      let w : View X = newcomer (suc id) m.0 in (
-        w,
-        keeps,
-        tt,
-        record {
-          log = k.log;
-          desk = k.desk;
-          owner = k.owner;
-          lock = k.lock;
-          home = k.home;
-          words = ap (λ (ws : List ℕ). slice_set ws 0 (slice_index ws 0)) k.words;
-          homes = k.homes;
-          lock_fits = k.lock_fits;
-          desk_fits = desk_stays k.desk s.views id m.0 w at (λ q. absurd (cc (is, q))) (λ q. absurd (cc (is, q))) (λ q. absurd (cc (is, q))) (λ q. absurd (cc (is, q))) k.desk_fits;
-          home_fits = k.home_fits;
-          views_fit = fit_set s.views id w k.desk k.log k.owner (λ i v ne e. k.views_fit i v e) (
-            f.0,
-            record { seen = f.1.seen; told = f.1.told; opening = f.1.opening; own = f.1.own; own_seen = f.1.own_seen; ended = f.1.ended; apart = f.1.apart; owner_is = f.1.owner_is },
-            refl,
-          );
-          fresh = freshly s k id w;
-        },
-        ((suc id, refl), refl),
-      )
-
-  learned_fits : (slots id : ℕ) (m : M) (list : List (ℕ × X)) (s : St) (k : Rule s) → m.0.role ≡ Idle → get_elem? s.views id ≡ some m.0
-      → IsPrefix m.0.seen list → IsPrefix m.0.told list → IsPrefix list k.log → (list ≡ m.0.seen) ⊎ (list ≡ m.0.told)
-      → (w : View X) × (a : Act (Option H)) × Valid s.homes m.1 a × Rule (stepped s 0 (slice_index s.words 0) id m.1 w a) × learns any m (slice_index s.words 0) (w, carried_after m.1 a)
-  learned_fits slots id m list s k is at p q r which =
-      let f = fits s k id m.0 Idle at is in
-      let w : View X = learned list m.0 in
-      let opening : of 0 list ≡ of 0 k.log = between 0 m.0.seen list k.log p r f.1.opening in (
-        w,
-        keeps,
-        tt,
-        record {
-          log = k.log;
-          desk = k.desk;
-          owner = k.owner;
-          lock = k.lock;
-          home = k.home;
-          words = ap (λ (ws : List ℕ). slice_set ws 0 (slice_index ws 0)) k.words;
-          homes = k.homes;
-          lock_fits = k.lock_fits;
-          desk_fits = desk_stays k.desk s.views id m.0 w at (λ q. absurd (cc (is, q))) (λ q. absurd (cc (is, q))) (λ q. absurd (cc (is, q))) (λ q. absurd (cc (is, q))) k.desk_fits;
-          home_fits = k.home_fits;
-          views_fit = fit_set s.views id w k.desk k.log k.owner (λ i v ne e. k.views_fit i v e) (subst (λ (r : Role). FitsAs r k.desk k.log k.owner id w) (sym is) (
-            f.0,
-            record {
-              seen = r;
-              told = (k.log, refl);
-              opening = opening;
-              own = f.1.own;
-              own_seen = between (suc id) m.0.seen list k.log p r (f.1.own_seen ∙ sym f.1.own) ∙ f.1.own;
-              ended = f.1.ended;
-              apart = f.1.apart;
-              owner_is = f.1.owner_is;
-            },
-            f.2,
-          ));
-          fresh = freshly s k id w;
-        },
-        ((list, refl, p, q, which, opening ∙ sym f.1.opening), refl),
-      )
-
-  pub learns_list : (slots id : ℕ) (m : M) → m.0.role ≡ Idle → Allows Rule slots id m 0 (λ n. n) (learns any m)
-  learns_list slots id m is s k len at small =
-      let f = fits s k id m.0 Idle at is in
-      dite (dec_le (length m.0.seen) (length m.0.told))
-      (λ le. learned_fits slots id m m.0.told s k is at (prefix_shorter m.0.seen m.0.told k.log f.1.seen f.1.told le) (prefix_self m.0.told) f.1.told (inr refl))
-      (λ more. learned_fits slots id m m.0.seen s k is at (prefix_self m.0.seen) (prefix_shorter m.0.told m.0.seen k.log f.1.told f.1.seen (omega arith)) f.1.seen (inl refl))
-
--- what was accounted for at one seat goes over to another
-moved : ℕ → ℕ → ℕ → ℕ
-moved from to n = if n == from then to else n
-
-moved_hit : (from to n : ℕ) → n ≡ from → moved from to n ≡ to
-unfolding moved
-moved_hit from to n e = ap (λ (b : Bool). if b then to else n) (eq-eqb n from e)
-
-moved_miss : (from to n : ℕ) → n ≢ from → moved from to n ≡ n
-unfolding moved
-moved_miss from to n ne = ap (λ (b : Bool). if b then to else n) (ne_eqb n from ne)
-
-module _ {X : Type 0} where
-  sits_moved : (log : List (ℕ × X)) (owner : ℕ → ℕ) (from to i : ℕ) (v : View X) → i ≢ from → Sits log owner i v → Sits log (λ n. moved from to (owner n)) i v
-  sits_moved log owner from to i v ne s = record {
-    seen = s.seen;
-    told = s.told;
-    opening = s.opening;
-    own = s.own;
-    own_seen = s.own_seen;
-    ended = every_more (λ (e : ℕ × List X). (of e.0 log ≡ e.1) × (owner e.0 ≡ i)) (λ (e : ℕ × List X). (of e.0 log ≡ e.1) × (moved from to (owner e.0) ≡ i)) v.ended
-        (λ e h. (h.0, ap (moved from to) h.1 ∙ moved_miss from to i ne)) s.ended;
-    apart = s.apart;
-    owner_is = ap (moved from to) s.owner_is ∙ moved_miss from to i ne;
-  }
-
-  -- the rule's word on the others
-  fits_moved : (r : Role) (desk : Desk) (log : List (ℕ × X)) (owner : ℕ → ℕ) (from to i : ℕ) (v : View X) → IsOpen desk → i ≢ from → FitsAs r desk log owner i v
-      → FitsAs r desk log (λ n. moved from to (owner n)) i v
-  fits_moved Vacant desk log owner from to i v o ne f = absurd (subst IsOpen f.0 o)
-  fits_moved Note desk log owner from to i v o ne f = (f.0, sits_moved log owner from to i v ne f.1)
-  fits_moved Idle desk log owner from to i v o ne f = (f.0, sits_moved log owner from to i v ne f.1, f.2)
-  fits_moved Holding desk log owner from to i v o ne f = (f.0, sits_moved log owner from to i v ne f.1, f.2)
-  fits_moved Level desk log owner from to i v o ne f = (f.0, sits_moved log owner from to i v ne f.1, f.2, f.3)
-  fits_moved Shut desk log owner from to i v o ne f = f
-  fits_moved Spent desk log owner from to i v o ne f = tt
-
-  owners : (log : List (ℕ × X)) (owner : ℕ → ℕ) (i : ℕ) (es : List (ℕ × List X)) → Every (λ e. (of e.0 log ≡ e.1) × (owner e.0 ≡ i)) es → Every (λ n. owner n ≡ i) (numbers es)
-  owners log owner i es h = every_number (λ n. owner n ≡ i) es (every_more (λ (e : ℕ × List X). (of e.0 log ≡ e.1) × (owner e.0 ≡ i)) (λ (e : ℕ × List X). owner e.0 ≡ i) es (λ e g. g.1) h)
-
-  sits_joined : (log : List (ℕ × X)) (owner : ℕ → ℕ) (id other : ℕ) (v w : View X) → other ≢ id → w.number ≡ suc other → Sits log owner id v → Sits log owner other w
-      → Sits log (λ n. moved other id (owner n)) id (joined v w)
-  sits_joined log owner id other v w ne number a b =
-      let owner' : ℕ → ℕ = λ n. moved other id (owner n) in
-      let mine : (n : ℕ) → owner n ≡ id → owner' n ≡ id = λ n e. ap (moved other id) e ∙ moved_miss other id id (λ q. ne (sym q)) in
-      let theirs : (n : ℕ) → owner n ≡ other → owner' n ≡ id = λ n e. ap (moved other id) e ∙ moved_hit other id other refl in
-      let own : owner w.number ≡ other = ap owner number ∙ b.owner_is in
-      let apart : Differ (0 ∷ w.number ∷ numbers w.ended) = subst (λ (n : ℕ). Differ (0 ∷ n ∷ numbers w.ended)) (sym number) b.apart in
-      let all : Differ ((suc id ∷ numbers v.ended) ++ (w.number ∷ numbers w.ended)) =
-      differ_append owner id other (λ q. ne (sym q)) (suc id ∷ numbers v.ended) (w.number ∷ numbers w.ended) a.apart.1 apart.1 (a.owner_is, owners log owner id v.ended a.ended) (own, owners log owner other w.ended b.ended) in
-      let none : Every (λ n. n ≢ 0) ((suc id ∷ numbers v.ended) ++ (w.number ∷ numbers w.ended)) =
-      every_append (λ n. n ≢ 0) (suc id ∷ numbers v.ended) (w.number ∷ numbers w.ended) a.apart.0 apart.0 in
-      record {
-        seen = a.seen;
-        told = b.seen;
-        opening = a.opening;
-        own = a.own;
-        own_seen = a.own_seen;
-        ended = every_append (λ (e : ℕ × List X). (of e.0 log ≡ e.1) × (owner' e.0 ≡ id)) v.ended ((w.number, w.mine) ∷ w.ended)
-            (every_more (λ (e : ℕ × List X). (of e.0 log ≡ e.1) × (owner e.0 ≡ id)) (λ (e : ℕ × List X). (of e.0 log ≡ e.1) × (owner' e.0 ≡ id)) v.ended (λ e h. (h.0, mine e.0 h.1)) a.ended) (
-              (ap (λ (n : ℕ). of n log) number ∙ b.own, theirs w.number own),
-              every_more (λ (e : ℕ × List X). (of e.0 log ≡ e.1) × (owner e.0 ≡ other)) (λ (e : ℕ × List X). (of e.0 log ≡ e.1) × (owner' e.0 ≡ id)) w.ended (λ e h. (h.0, theirs e.0 h.1)) b.ended,
-            );
-        apart = subst (λ (ns : List ℕ). Differ (0 ∷ suc id ∷ ns)) (sym (map-append (λ (e : ℕ × List X). e.0) v.ended ((w.number, w.mine) ∷ w.ended))) (none, all);
-        owner_is = mine (suc id) a.owner_is;
-      }
-
-module _ {H T X : Type 0} (stands : T → List X → Type 0) (value : H → Option T) (book : H → ℕ) where
-  pub joins_views : (id : ℕ) (v : View X) (other : ℕ) (w : View X) → v.role ≡ Idle → w.role ≡ Idle → Joins (Kept stands value book) id v other w (joined v w) spent
-  joins_views id v other w is was s k at apart there =
-      let both : View X = joined v w in
-      let at_other : get_elem? s.views other ≡ some w = sym (set_else s.views id other both apart) ∙ there in
-      let f = fits stands value book s k id v Idle at is in
-      let g = fits stands value book s k other w Idle at_other was in
-      let owner' : ℕ → ℕ = λ n. moved other id (k.owner n) in
-      let bound = at_bound s.views other w at_other in
-      record {
-        log = k.log;
-        desk = k.desk;
-        owner = owner';
-        lock = k.lock;
-        home = k.home;
-        words = k.words;
-        homes = k.homes;
-        lock_fits = k.lock_fits;
-        desk_fits = desk_stays k.desk (set s.views id both) other w spent there (λ q. absurd (cc (was, q))) (λ q. absurd (cc (was, q))) (λ q. absurd (cc (was, q))) (λ q. absurd (cc (was, q)))
-            (desk_stays k.desk s.views id v both at (λ q. absurd (cc (is, q))) (λ q. absurd (cc (is, q))) (λ q. absurd (cc (is, q))) (λ q. absurd (cc (is, q))) k.desk_fits);
-        home_fits = k.home_fits;
-        views_fit = fit_set (set s.views id both) other spent k.desk k.log owner'
-            (λ i u ne e. ⊎_elim
-            (λ (t : (i ≡ id) × (both ≡ u)). subst (λ (z : ℕ × View X). FitsAs z.1.role k.desk k.log owner' z.0 z.1) (λ j. (sym t.0 j, t.1 j))
-            (subst (λ (r : Role). FitsAs r k.desk k.log owner' id both) (sym is) (f.0, sits_joined k.log k.owner id other v w apart g.2 f.1 g.1, f.2)))
-            (λ (t : (i ≢ id) × (get_elem? s.views i ≡ some u)). fits_moved u.role k.desk k.log k.owner other id i u f.0 ne (k.views_fit i u t.1))
-            (at_set s.views id i both u e))
-            tt;
-        fresh = λ i le.
-            let l = length-set (set s.views id both) other spent in
-            let l' = length-set s.views id both in
-            let h = k.fresh i (omega arith) in
-            (h.0, ap (moved other id) h.1 ∙ moved_miss other id i (λ q. omega arith));
-      }
-
-  -- a turn that is shut has nothing in its slot
-  pub closes_empty : (id : ℕ) (v : View X) (ws : List ℕ) (xs : List (Option H)) → v.role ≡ Shut → Final (Seen (Kept stands value book) id v) ws xs → get_elem? xs 0 ≡ some None
-  closes_empty id v ws xs is end =
-      let s = end.0 in
-      let k = end.1.0 in
-      let f = fits stands value book s k id v Shut end.1.1 is in
-      let h : k.home ≡ some None = subst (λ (d : Desk). HomeFits stands value book d k.log k.home) f k.home_fits in
-      end.4 0 None (ap (λ (hs : List (maybe.Option (Option H))). get_elem? hs 0) k.homes ∙ ap some h)

@@ -29,6 +29,16 @@ abbrev pub LockFits : Desk → ℕ → Type 0
 LockFits free n = n ≡ 0
 LockFits _ n = 0 < n
 
+-- what a view's role says of who has the lock. Who has not got it has a turn with its value
+abbrev pub HasAs : Role → ℕ → Desk → Type 0
+HasAs Vacant i desk = desk ≡ vacant i
+HasAs Note i desk = IsOpen desk
+HasAs Idle i desk = IsOpen desk
+HasAs Holding i desk = desk ≡ held i
+HasAs Level i desk = desk ≡ level i
+HasAs Shut i desk = desk ≡ shut i
+HasAs Spent i desk = Unit {0}
+
 module _ {X : Type 0} where
   abbrev pub as_role : Role → View X → View X
   as_role r v = record { role = r; number = v.number; seen = v.seen; told = v.told; mine = v.mine; ended = v.ended }
@@ -69,37 +79,66 @@ module _ {X : Type 0} where
     pub ended : Every (λ e. of e.0 list ≡ e.1) v.ended
     pub apart : Differ (0 ∷ v.number ∷ numbers v.ended)
 
-  -- what the rule says of a view in use: what it has seen begins the list and has all that the turn was made with; what it
-  -- added is all that carries its number; so of the seats that were joined into it, whose numbers are accounted for here alone
-  pub record Sits (log : List (ℕ × X)) (owner : ℕ → ℕ) (i : ℕ) (v : View X) : Type 0 where
+  -- what a view has seen begins the list, and has all that the turn was made with
+  pub record Sees (log : List (ℕ × X)) (v : View X) : Type 0 where
     pub seen : IsPrefix v.seen log
     pub told : IsPrefix v.told log
     pub opening : of 0 v.seen ≡ of 0 log
+
+  -- what the view at i added is all that carries its number, and it has seen that; so of the seats that were joined into it.
+  -- Its numbers differ from each other, and each has this view as its owner, so no other view has one of them
+  pub record Owns (log : List (ℕ × X)) (owner : ℕ → ℕ) (i : ℕ) (v : View X) : Type 0 where
     pub own : of (suc i) log ≡ v.mine
     pub own_seen : of (suc i) v.seen ≡ v.mine
     pub ended : Every (λ e. (of e.0 log ≡ e.1) × (owner e.0 ≡ i)) v.ended
     pub apart : Differ (0 ∷ suc i ∷ numbers v.ended)
     pub owner_is : owner (suc i) ≡ i
 
-  -- what the rule says of the view at i, by its role
-  abbrev pub FitsAs : Role → Desk → List (ℕ × X) → (ℕ → ℕ) → ℕ → View X → Type 0
-  FitsAs Vacant desk log owner i v = (desk ≡ vacant i) × (i ≡ 0) × (log ≡ []) × (owner (suc i) ≡ i)
-  FitsAs Note desk log owner i v = IsOpen desk × Sits log owner i v
-  FitsAs Idle desk log owner i v = IsOpen desk × Sits log owner i v × (v.number ≡ suc i)
-  FitsAs Holding desk log owner i v = (desk ≡ held i) × Sits log owner i v × (v.number ≡ suc i)
-  FitsAs Level desk log owner i v = (desk ≡ level i) × Sits log owner i v × (v.number ≡ suc i) × (v.seen ≡ log)
-  FitsAs Shut desk log owner i v = desk ≡ shut i
-  FitsAs Spent desk log owner i v = Unit {0}
+  -- what is said of all views but spent ones
+  abbrev pub SeesAs : Role → List (ℕ × X) → View X → Type 0
+  SeesAs Spent log v = Unit {0}
+  SeesAs _ log v = Sees log v
+
+  -- a note has no number yet
+  abbrev pub OwnsAs : Role → List (ℕ × X) → (ℕ → ℕ) → ℕ → View X → Type 0
+  OwnsAs Spent log owner i v = Unit {0}
+  OwnsAs Note log owner i v = Owns log owner i v
+  OwnsAs _ log owner i v = Owns log owner i v × (v.number ≡ suc i)
 
   abbrev pub Has : List (View X) → ℕ → Role → Type 0
   Has views i role = (v : View X) × (get_elem? views i ≡ some v) × (v.role ≡ role)
 
+  -- who has the lock is there
   abbrev pub DeskFits : Desk → List (View X) → Type 0
   DeskFits free views = Unit {0}
   DeskFits (held i) views = Has views i Holding
   DeskFits (level i) views = Has views i Level
   DeskFits (vacant i) views = Has views i Vacant
   DeskFits (shut i) views = Has views i Shut
+
+  -- the lock word is free exactly where no view has the lock, and never do two have it
+  pub record MutualExclusion (desk : Desk) (words : List ℕ) (views : List (View X)) : Type 0 where
+    pub lock : ℕ
+    pub count : ℕ
+    pub words_are : words ≡ lock ∷ count ∷ []
+    pub fits : LockFits desk lock
+    pub one_at_most : (i : ℕ) (v : View X) → get_elem? views i ≡ some v → HasAs v.role i desk
+    pub there : DeskFits desk views
+
+  -- all that was seen begins one list, and the count word is its length
+  pub record OneList (log : List (ℕ × X)) (words : List ℕ) (views : List (View X)) : Type 0 where
+    pub lock : ℕ
+    pub words_are : words ≡ lock ∷ length log ∷ []
+    pub begins : (i : ℕ) (v : View X) → get_elem? views i ≡ some v → SeesAs v.role log v
+
+  -- each number's entries are accounted for at one view, and a number that is not given yet has no entry
+  pub record NumbersApart (log : List (ℕ × X)) (owner : ℕ → ℕ) (views : List (View X)) : Type 0 where
+    pub accounted : (i : ℕ) (v : View X) → get_elem? views i ≡ some v → OwnsAs v.role log owner i v
+    pub fresh : (i : ℕ) → length views ≤ i → (of (suc i) log ≡ []) × (owner (suc i) ≡ i)
+
+  -- a level view has the lock, and has seen the whole list
+  abbrev pub LevelSeesAll : Desk → List (ℕ × X) → List (View X) → Type 0
+  LevelSeesAll desk log views = (i : ℕ) (v : View X) → get_elem? views i ≡ some v → v.role ≡ Level → (desk ≡ level i) × (v.seen ≡ log)
 
 -- the slot's value stands for the list, and the book beside it counts what was added
 pub record Stocked {H T X : Type 0} (stands : T → List X → Type 0) (value : H → Option T) (book : H → ℕ) (log : List (ℕ × X)) (slot : Option H) : Type 0 where
@@ -110,34 +149,31 @@ pub record Stocked {H T X : Type 0} (stands : T → List X → Type 0) (value : 
   pub stands_for : stands shown (entries log)
   pub counted : book inside ≡ added log
 
-module _ {H T X : Type 0} (stands : T → List X → Type 0) (value : H → Option T) (book : H → ℕ) where
+module _ {H : Type 0} where
   -- the value is at home exactly where no view is level, but in a turn that has no value yet or none any more
-  abbrev pub HomeFits : Desk → List (ℕ × X) → maybe.Option (Option H) → Type 0
-  HomeFits free log home = (slot : Option H) × (home ≡ some slot) × Stocked stands value book log slot
-  HomeFits (held i) log home = (slot : Option H) × (home ≡ some slot) × Stocked stands value book log slot
-  HomeFits (level i) log home = home ≡ none
-  HomeFits (vacant i) log home = home ≡ some None
-  HomeFits (shut i) log home = home ≡ some None
+  abbrev pub HomeUnlessLevel : Desk → List (maybe.Option (Option H)) → Type 0
+  HomeUnlessLevel free homes = (h : H) × (homes ≡ some (Some h) ∷ [])
+  HomeUnlessLevel (held i) homes = (h : H) × (homes ≡ some (Some h) ∷ [])
+  HomeUnlessLevel (level i) homes = homes ≡ none ∷ []
+  HomeUnlessLevel (vacant i) homes = homes ≡ some None ∷ []
+  HomeUnlessLevel (shut i) homes = homes ≡ some None ∷ []
 
+module _ {H T X : Type 0} (stands : T → List X → Type 0) (value : H → Option T) (book : H → ℕ) where
+  -- a value at home stands for the list, and the book beside it counts what seats added
+  abbrev pub HomeStands : List (ℕ × X) → List (maybe.Option (Option H)) → Type 0
+  HomeStands log homes = (h : H) → homes ≡ some (Some h) ∷ [] → Stocked stands value book log (Some h)
+
+  -- six facts, of one list, of who has the lock, and of the view that accounts for each number
   pub record Kept (s : State (Option H) (View X)) : Type 0 where
     pub log : List (ℕ × X)
     pub desk : Desk
     pub owner : ℕ → ℕ
-    pub lock : ℕ
-    pub home : maybe.Option (Option H)
-    -- the count word is the length of the list
-    pub words : s.words ≡ lock ∷ length log ∷ []
-    pub homes : s.homes ≡ home ∷ []
-    -- the lock word is free exactly where no view has the lock
-    pub lock_fits : LockFits desk lock
-    pub desk_fits : DeskFits desk s.views
-    -- a value at home stands for the list and has its book; it is away exactly where a view is level
-    pub home_fits : HomeFits desk log home
-    -- all that was seen begins the list; one view at most has the lock, and a level one has seen the whole list; each number's
-    -- entries are accounted for at one view
-    pub views_fit : (i : ℕ) (v : View X) → get_elem? s.views i ≡ some v → FitsAs v.role desk log owner i v
-    -- a number that is not given yet has no entry, and nobody accounts for it
-    pub fresh : (i : ℕ) → length s.views ≤ i → (of (suc i) log ≡ []) × (owner (suc i) ≡ i)
+    pub mutual_exclusion : MutualExclusion desk s.words s.views
+    pub one_list : OneList log s.words s.views
+    pub home_stands : HomeStands log s.homes
+    pub home_unless_level : HomeUnlessLevel desk s.homes
+    pub numbers_apart : NumbersApart log owner s.views
+    pub level_sees_all : LevelSeesAll desk log s.views
 
 abbrev Sat : Type 0 → Type 0 → Type 0
 Sat H X = Me (Option H) (View X)

@@ -4,7 +4,7 @@ use Rattle.lt_turn.specs.declared.view.View.{View}
 use Rattle.lt_turn.specs.declared.rule.Held.{Held}
 use Rattle.lt_turn.specs.Rule.{opened, Stocked}
 use Rattle.lt_turn.proofs.Lists.{entries_numbered, added_opening}
-use Rattle.lt_turn.proofs.Steps.{opens_turn, gives_lock}
+use Rattle.lt_turn.proofs.Allowed.{opens_turn, gives_lock}
 use Rattle.lt_turn.proofs.turn.opened.Goals as goal
 
 pub store-requires : goal.store-requires

@@ -1,7 +1,7 @@
 use Rattle.std.proofs.Common.{◌∷◌, sym, ap, ◌∙◌, subst, arith}
 use Rattle.lt_turn.specs.declared.view.View.{View}
 use Rattle.lt_turn.specs.Rule.{Stocked}
-use Rattle.lt_turn.proofs.Steps.{reads_count}
+use Rattle.lt_turn.proofs.Allowed.{reads_count}
 use Rattle.lt_turn.proofs.Seats.{carries_idle}
 use Rattle.lt_turn.proofs.turn.Turn.enter.Goals as goal
 

@@ -2,7 +2,7 @@ use Rattle.std.proofs.Common.{◌≡◌, ◌∷◌, sym, ap, ◌∙◌, arith, �
 use Rattle.lt_turn.specs.declared.view.View.{View}
 use Rattle.lt_turn.specs.Lists.{total}
 use Rattle.lt_turn.specs.Rule.{learned, joined}
-use Rattle.lt_turn.proofs.Steps.{joins_views, learns_list}
+use Rattle.lt_turn.proofs.Allowed.{joins_views, learns_list}
 use Rattle.lt_turn.proofs.Seats.{carries_idle, total_append}
 use Rattle.lt_turn.proofs.turn.Turn.join.Goals as goal
 

@@ -4,7 +4,7 @@ use Rattle.lt_turn.specs.Lists.{entries, numbered, added, of}
 use Rattle.lt_turn.specs.Rule.{Stocked, as_role}
 use Rattle.lt_turn.specs.declared.view.Role.TheVariants.{Idle}
 use Rattle.lt_turn.proofs.Lists.{length-entries, entries_behind, added_behind, of_behind}
-use Rattle.lt_turn.proofs.Steps.{raises_count, gives_lock}
+use Rattle.lt_turn.proofs.Allowed.{raises_count, gives_lock}
 use Rattle.lt_turn.proofs.Seats.{carries_level}
 use Rattle.lt_turn.proofs.turn.Turn.leave.Goals as goal
 

@@ -1,4 +1,4 @@
-use Rattle.lt_turn.proofs.Steps.{begins}
+use Rattle.lt_turn.proofs.Allowed.{begins}
 use Rattle.lt_turn.proofs.turn.Turn.new.Goals as goal
 
 pub vacant-requires : goal.vacant-requires

@@ -1,7 +1,7 @@
 use Rattle.std.proofs.Common.{sym, ap, ◌∙◌, arith}
 use mathlib.Core.Option.{some-injective}
 use Rattle.lt_turn.specs.declared.view.View.{View}
-use Rattle.lt_turn.proofs.Steps.{shuts_turn, closes_empty}
+use Rattle.lt_turn.proofs.Allowed.{shuts_turn, closes_empty}
 use Rattle.lt_turn.proofs.turn.Turn.shut.Goals as goal
 
 pub store-requires : goal.store-requires

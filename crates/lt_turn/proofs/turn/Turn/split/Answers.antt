@@ -1,5 +1,5 @@
 use Rattle.std.proofs.Common.{sym, ap, ◌∙◌, arith}
-use Rattle.lt_turn.proofs.Steps.{splits_view, numbers_seat}
+use Rattle.lt_turn.proofs.Allowed.{splits_view, numbers_seat}
 use Rattle.lt_turn.proofs.turn.Turn.split.Goals as goal
 
 pub split_seat-pass-requires : goal.split_seat-pass-requires

@@ -1,6 +1,6 @@
 use Rattle.std.proofs.Common.{sym, ◌∙◌, arith, eqb}
 use prog.Atomic.{either}
-use Rattle.lt_turn.proofs.Steps.{tries_lock}
+use Rattle.lt_turn.proofs.Allowed.{tries_lock}
 use Rattle.lt_turn.proofs.Seats.{held_after}
 use Rattle.lt_turn.proofs.turn.Turn.try_lock.Goals as goal
 

@@ -1,5 +1,5 @@
 use Rattle.std.proofs.Common.{sym, ◌∙◌, arith}
-use Rattle.lt_turn.proofs.Steps.{tries_lock}
+use Rattle.lt_turn.proofs.Allowed.{tries_lock}
 use Rattle.lt_turn.proofs.turn.Turn.try_waiting.Goals as goal
 
 pub swap-requires : goal.swap-requires
