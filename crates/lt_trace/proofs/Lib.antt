@@ -1,0 +1,10 @@
+pub mod Lists
+pub mod Rows
+pub mod Rising
+pub mod Keys
+pub mod Opening
+pub mod Images
+pub mod Past
+pub mod Same
+pub mod Merged
+pub mod Counting
