@@ -47,8 +47,8 @@ module _ {H T X : Type 0} (stands : T → List X → Type 0) (value : H → Opti
   pub learns_list : (slots id : ℕ) (m : M) → m.0.role ≡ Idle → Allows (Kept stands value book) slots id m 0 (λ n. n) (learns any m)
   learns_list slots id m is = allowed stands value book slots id m 0 (λ n. n) (learns any m) (seating.learns_list stands value book slots id m is)
 
-  pub joins_views : (id : ℕ) (v : View X) (other : ℕ) (w : View X) → v.role ≡ Idle → w.role ≡ Idle → Joins (Kept stands value book) id v other w (joined v w) spent
-  joins_views id v other w is was s k at apart there = kept stands value book _ (seating.joins_views stands value book id v other w is was s (by_role stands value book s k) at apart there)
+  pub joins_views : (id : ℕ) (v : View X) (other : ℕ) (w : View X) → v.role ≡ Idle → w.role ≡ Idle → v.told ≡ [] → w.told ≡ [] → Joins (Kept stands value book) id v other w (joined v w) spent
+  joins_views id v other w is was told told_there s k at apart there = kept stands value book _ (seating.joins_views stands value book id v other w is was told told_there s (by_role stands value book s k) at apart there)
 
   -- a turn that is shut has nothing in its slot
   pub closes_empty : (id : ℕ) (v : View X) (ws : List ℕ) (xs : List (Option H)) → v.role ≡ Shut → Final (Seen (Kept stands value book) id v) ws xs → get_elem? xs 0 ≡ some None

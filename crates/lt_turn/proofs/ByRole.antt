@@ -9,12 +9,16 @@ use Rattle.lt_turn.specs.declared.view.View.{View}
 use Rattle.lt_turn.specs.declared.view.Role.{Role}
 use Rattle.lt_turn.specs.declared.view.Role.TheVariants.{Vacant, Note, Idle, Holding, Level, Shut, Spent}
 use Rattle.lt_turn.specs.Lists.{of, Every, Differ, numbers}
-use Rattle.lt_turn.specs.Rule.{Desk, free, held, level, vacant, shut, IsOpen, LockFits, HasAs, Sees, Owns, SeesAs, OwnsAs, DeskFits, HomeUnlessLevel, HomeStands, Stocked, Kept}
+use Rattle.lt_turn.specs.Rule.{Desk, free, held, level, vacant, shut, IsOpen, LockFits, HasAs, Sees, Owns, SeesAs, OwnsAs, KnowsAll, DeskFits, HomeUnlessLevel, HomeStands, Stocked, Kept}
 
 same_words : (ws : List ℕ) (lock lock' count n : ℕ) → ws ≡ lock ∷ count ∷ [] → ws ≡ lock' ∷ n ∷ [] → ws ≡ lock ∷ n ∷ []
 same_words ws lock lock' count n a b = cc (a, b)
 
 module _ {X : Type 0} where
+  -- one view has seen the whole list, or was told of it
+  abbrev pub Whole : List (ℕ × X) → List (View X) → Type 0
+  Whole log views = (i : ℕ) × (v : View X) × (get_elem? views i ≡ some v) × KnowsAll log v
+
   -- a view in use
   pub record Sits (log : List (ℕ × X)) (owner : ℕ → ℕ) (i : ℕ) (v : View X) : Type 0 where
     pub seen : IsPrefix v.seen log
@@ -86,6 +90,7 @@ module _ {H T X : Type 0} (stands : T → List X → Type 0) (value : H → Opti
     pub desk_fits : DeskFits desk s.views
     pub home_fits : HomeFits desk log home
     pub views_fit : (i : ℕ) (v : View X) → get_elem? s.views i ≡ some v → FitsAs v.role desk log owner i v
+    pub whole : Whole log s.views
     pub fresh : (i : ℕ) → length s.views ≤ i → (of (suc i) log ≡ []) × (owner (suc i) ≡ i)
 
   abbrev Homes : Type 0
@@ -132,6 +137,7 @@ module _ {H T X : Type 0} (stands : T → List X → Type 0) (value : H → Opti
         desk_fits = m.there;
         home_fits = a.2;
         views_fit = λ i v at. by_facts v.role k.desk k.log k.owner i v (m.one_at_most i v at, o.begins i v at, k.numbers_apart.accounted i v at, k.level_sees_all i v at);
+        whole = o.longest;
         fresh = k.numbers_apart.fresh;
       }
 
@@ -143,7 +149,7 @@ module _ {H T X : Type 0} (stands : T → List X → Type 0) (value : H → Opti
         desk = k.desk;
         owner = k.owner;
         mutual_exclusion = record { lock = k.lock; count = length k.log; words_are = k.words; fits = k.lock_fits; one_at_most = λ i v at. (four i v at).0; there = k.desk_fits };
-        one_list = record { lock = k.lock; words_are = k.words; begins = λ i v at. (four i v at).1 };
+        one_list = record { lock = k.lock; words_are = k.words; begins = λ i v at. (four i v at).1; longest = k.whole };
         home_stands = stands_at k.desk k.log k.home s.homes k.homes k.home_fits;
         home_unless_level = at_home k.desk k.log k.home s.homes k.homes k.home_fits;
         numbers_apart = record { accounted = λ i v at. (four i v at).2; fresh = k.fresh };

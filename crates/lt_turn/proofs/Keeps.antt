@@ -1,15 +1,16 @@
 -- What a step of one seat leaves as it was: the views of all others.
-use Rattle.std.proofs.Common.{◌≡◌, ◌≢◌, ℕ, zero, suc, List, [], ◌∷◌, ◌++◌, set, refl, sym, ap, ◌∙◌, subst, ⊎_elim, arith}
+use Rattle.std.proofs.Common.{◌≡◌, ◌≢◌, ◌⊎◌, ℕ, zero, suc, List, [], ◌∷◌, ◌++◌, set, refl, sym, ap, ◌∙◌, append-nil, subst, ⊎_elim, inl, inr, arith}
+use mathlib.Core.List.{IsPrefix}
 use mathlib.Core.Option.{some, some-ne-none, some-injective}
 use lib.ListN.{get_elem?}
-use Rattle.atomic_table.proofs.Lists.{at_set, set_else, at_longer}
+use Rattle.atomic_table.proofs.Lists.{at_set, set_again, set_else, at_longer}
 use Rattle.lt_turn.specs.declared.view.View.{View}
 use Rattle.lt_turn.specs.declared.view.Role.{Role}
 use Rattle.lt_turn.specs.declared.view.Role.TheVariants.{Vacant, Note, Idle, Holding, Level, Shut, Spent}
 use Rattle.lt_turn.specs.Lists.{numbered, of}
-use Rattle.lt_turn.specs.Rule.{Desk, free, held, level, vacant, shut, IsOpen, Has, DeskFits}
-use Rattle.lt_turn.proofs.ByRole.{Sits, FitsAs}
-use Rattle.lt_turn.proofs.Lists.{prefix_trans, every_more, of_behind}
+use Rattle.lt_turn.specs.Rule.{Desk, free, held, level, vacant, shut, IsOpen, Has, DeskFits, KnowsAll, joined, spent}
+use Rattle.lt_turn.proofs.ByRole.{Sits, FitsAs, Whole}
+use Rattle.lt_turn.proofs.Lists.{prefix_trans, every_more, of_behind, nil_left, nil_right}
 
 -- the lock is free, or this seat's
 abbrev pub By : Desk → ℕ → Type 0
@@ -92,13 +93,13 @@ module _ {X : Type 0} where
   }
 
   -- the views, where one that has no lock changes, or the one that has it
+  pub at_self : (views : List (View X)) (id : ℕ) (v w : View X) → get_elem? views id ≡ some v → get_elem? (set views id w) id ≡ some w
+  at_self [] id v w e = absurd (some-ne-none v (sym e))
+  at_self (x ∷ xs) zero v w e = refl
+  at_self (x ∷ xs) (suc id) v w e = at_self xs id v w e
+
   pub has_set : (views : List (View X)) (id : ℕ) (r : Role) (v w : View X) → get_elem? views id ≡ some v → w.role ≡ r → Has (set views id w) id r
-  has_set views id r v w at is = (w, here views id v at, is)
-    where
-      here : (l : List (View X)) (i : ℕ) (v : View X) → get_elem? l i ≡ some v → get_elem? (set l i w) i ≡ some w
-      here [] i v e = absurd (some-ne-none v (sym e))
-      here (x ∷ xs) zero v e = refl
-      here (x ∷ xs) (suc i) v e = here xs i v e
+  has_set views id r v w at is = (w, at_self views id v w at, is)
 
   has_other : (views : List (View X)) (id i : ℕ) (r : Role) (v w : View X) → get_elem? views id ≡ some v → v.role ≢ r → Has views i r → Has (set views id w) i r
   has_other views id i r v w at apart h =
@@ -129,3 +130,41 @@ module _ {X : Type 0} where
 
   pub not_role : (v : View X) (r q : Role) → v.role ≡ r → r ≢ q → v.role ≢ q
   not_role v r q is ne e = ne (sym is ∙ e)
+
+  -- this view, or another
+  one_of : (views : List (View X)) (id i : ℕ) (v u : View X) → get_elem? views id ≡ some v → get_elem? views i ≡ some u → ((i ≡ id) × (v ≡ u)) ⊎ ((i ≢ id) × (get_elem? views i ≡ some u))
+  one_of views id i v u at there = at_set views id i v u (ap (λ (l : List (View X)). get_elem? l i) (set_again views id v at) ∙ there)
+
+  pub whole_set : (log : List (ℕ × X)) (views : List (View X)) (id : ℕ) (v w : View X) → get_elem? views id ≡ some v → (KnowsAll log v → KnowsAll log w) → Whole log views → Whole log (set views id w)
+  whole_set log views id v w at f h =
+      ⊎_elim
+      (λ (t : (h.0 ≡ id) × (v ≡ h.1)). (id, w, at_self views id v w at, f (subst (KnowsAll log) (sym t.1) h.3)))
+      (λ (t : (h.0 ≢ id) × (get_elem? views h.0 ≡ some h.1)). (h.0, h.1, set_else views id h.0 w t.0 ∙ t.1, h.3))
+      (one_of views id h.0 v h.1 at h.2)
+
+  pub whole_longer : (log : List (ℕ × X)) (views more : List (View X)) → Whole log views → Whole log (views ++ more)
+  whole_longer log views more h = (h.0, h.1, at_longer views more h.0 h.1 h.2, h.3)
+
+  -- between what is the whole list and the list there is only the list
+  pub all_seen : (a b log : List (ℕ × X)) → a ≡ log → IsPrefix a b → IsPrefix b log → b ≡ log
+  all_seen a b log e p q =
+      let none : q.0 ≡ [] = nil_right a p.0 q.0 (ap (λ (l : List (ℕ × X)). l ++ q.0) p.1 ∙ (q.1 ∙ sym e)) in
+      sym (append-nil b) ∙ (ap (λ (l : List (ℕ × X)). b ++ l) (sym none) ∙ q.1)
+
+  -- a view that was told of nothing
+  pub seen_whole : (log : List (ℕ × X)) (v : View X) → v.told ≡ [] → IsPrefix v.seen log → KnowsAll log v → v.seen ≡ log
+  seen_whole log v none p k =
+      ⊎_elim (λ (e : v.seen ≡ log). e) (λ (e : v.told ≡ log). let z : log ≡ [] = sym e ∙ none in nil_left v.seen p.0 (p.1 ∙ z) ∙ sym z) k
+
+  pub whole_joined : (log : List (ℕ × X)) (views : List (View X)) (id other : ℕ) (v w : View X) → get_elem? views id ≡ some v → get_elem? views other ≡ some w → other ≢ id
+      → (KnowsAll log v → v.seen ≡ log) → (KnowsAll log w → w.seen ≡ log) → Whole log views → Whole log (set (set views id (joined v w)) other spent)
+  whole_joined log views id other v w at there ne f g h =
+      let both : View X = joined v w in
+      let here : get_elem? (set (set views id both) other spent) id ≡ some both = set_else (set views id both) other id spent (λ q. ne (sym q)) ∙ at_self views id v both at in
+      ⊎_elim
+      (λ (t : (h.0 ≡ id) × (v ≡ h.1)). (id, both, here, inl (f (subst (KnowsAll log) (sym t.1) h.3))))
+      (λ (t : (h.0 ≢ id) × (get_elem? views h.0 ≡ some h.1)). ⊎_elim
+      (λ (u : (h.0 ≡ other) × (w ≡ h.1)). (id, both, here, inr (g (subst (KnowsAll log) (sym u.1) h.3))))
+      (λ (u : (h.0 ≢ other) × (get_elem? views h.0 ≡ some h.1)). (h.0, h.1, set_else (set views id both) other h.0 spent u.0 ∙ (set_else views id h.0 both t.0 ∙ t.1), h.3))
+      (one_of views other h.0 w h.1 there h.2))
+      (one_of views id h.0 v h.1 at h.2)

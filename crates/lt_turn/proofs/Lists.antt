@@ -166,7 +166,7 @@ pub nil_left : {A : Type 0} (xs ys : List A) → xs ++ ys ≡ [] → xs ≡ []
 nil_left [] ys e = refl
 nil_left (x ∷ xs) ys e = absurd (cc e)
 
-nil_right : {A : Type 0} (xs ys zs : List A) → (xs ++ ys) ++ zs ≡ xs → zs ≡ []
+pub nil_right : {A : Type 0} (xs ys zs : List A) → (xs ++ ys) ++ zs ≡ xs → zs ≡ []
 nil_right xs ys [] e = refl
 nil_right xs ys (z ∷ zs) e = let a = length-append (xs ++ ys) (z ∷ zs) in let b = length-append xs ys in let c = ap length e in absurd (omega arith)
 

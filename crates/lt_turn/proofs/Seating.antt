@@ -18,7 +18,7 @@ use Rattle.lt_turn.proofs.ByRole.{Sits, FitsAs, HomeFits, ByRole}
 use Rattle.lt_turn.proofs.Steps.{any, at_bound}
 use Rattle.lt_turn.proofs.Steps as step
 use Rattle.lt_turn.proofs.Lists.{prefix_self, prefix_shorter, every_append, every_more, every_number, between, none_before, differ_append}
-use Rattle.lt_turn.proofs.Keeps.{fit_set, desk_stays, desk_longer}
+use Rattle.lt_turn.proofs.Keeps.{whole_set, whole_longer, whole_joined, all_seen, seen_whole, fit_set, desk_stays, desk_longer}
 
 at_end : {A : Type 0} (l : List A) (a b : A) (j : ℕ) → get_elem? (l ++ a ∷ []) j ≡ some b → (get_elem? l j ≡ some b) ⊎ ((j ≡ length l) × (a ≡ b))
 at_end [] a b zero e = inr (refl, some-injective a b e)
@@ -68,6 +68,7 @@ module _ {H T X : Type 0} (stands : T → List X → Type 0) (value : H → Opti
               },
             ))
             (at_end s.views (note v) u j e);
+        whole = whole_longer k.log s.views (note v ∷ []) k.whole;
         fresh = λ i le. k.fresh i (let l = length-append s.views (note v ∷ []) in omega arith);
       }
 
@@ -94,6 +95,7 @@ module _ {H T X : Type 0} (stands : T → List X → Type 0) (value : H → Opti
             record { seen = f.1.seen; told = f.1.told; opening = f.1.opening; own = f.1.own; own_seen = f.1.own_seen; ended = f.1.ended; apart = f.1.apart; owner_is = f.1.owner_is },
             refl,
           );
+          whole = whole_set k.log s.views id m.0 w at (λ t. t) k.whole;
           fresh = step.freshly stands value book s k id w;
         },
         ((suc id, refl), refl),
@@ -134,6 +136,7 @@ module _ {H T X : Type 0} (stands : T → List X → Type 0) (value : H → Opti
             },
             f.2,
           ));
+          whole = whole_set k.log s.views id m.0 w at (λ t. inl (⊎_elim (λ (e : m.0.seen ≡ k.log). all_seen m.0.seen list k.log e p r) (λ (e : m.0.told ≡ k.log). all_seen m.0.told list k.log e q r) t)) k.whole;
           fresh = step.freshly stands value book s k id w;
         },
         ((list, refl, p, q, which, opening ∙ sym f.1.opening), refl),
@@ -214,8 +217,8 @@ module _ {X : Type 0} where
       }
 
 module _ {H T X : Type 0} (stands : T → List X → Type 0) (value : H → Option T) (book : H → ℕ) where
-  pub joins_views : (id : ℕ) (v : View X) (other : ℕ) (w : View X) → v.role ≡ Idle → w.role ≡ Idle → Joins (ByRole stands value book) id v other w (joined v w) spent
-  joins_views id v other w is was s k at apart there =
+  pub joins_views : (id : ℕ) (v : View X) (other : ℕ) (w : View X) → v.role ≡ Idle → w.role ≡ Idle → v.told ≡ [] → w.told ≡ [] → Joins (ByRole stands value book) id v other w (joined v w) spent
+  joins_views id v other w is was told told_there s k at apart there =
       let both : View X = joined v w in
       let at_other : get_elem? s.views other ≡ some w = sym (set_else s.views id other both apart) ∙ there in
       let f = step.fits stands value book s k id v Idle at is in
@@ -241,6 +244,7 @@ module _ {H T X : Type 0} (stands : T → List X → Type 0) (value : H → Opti
             (λ (t : (i ≢ id) × (get_elem? s.views i ≡ some u)). fits_moved u.role k.desk k.log k.owner other id i u f.0 ne (k.views_fit i u t.1))
             (at_set s.views id i both u e))
             tt;
+        whole = whole_joined k.log s.views id other v w at at_other apart (seen_whole k.log v told f.1.seen) (seen_whole k.log w told_there g.1.seen) k.whole;
         fresh = λ i le.
             let l = length-set (set s.views id both) other spent in
             let l' = length-set s.views id both in

@@ -13,7 +13,7 @@ use Rattle.lt_turn.specs.Lists.{numbered, of, Differ, numbers}
 use Rattle.lt_turn.specs.Rule.{Desk, free, held, level, vacant, shut, IsOpen, LockFits, Stocked, Accounts, as_role, first, opened, read, raised, opens, gives_back, tries, raises, shuts, reads}
 use Rattle.lt_turn.proofs.ByRole.{Sits, FitsAs, HomeFits, ByRole}
 use Rattle.lt_turn.proofs.Lists.{prefix_self, prefix_trans, every_more, every_both, number_every, of_other, of_behind, of_own, length-numbered}
-use Rattle.lt_turn.proofs.Keeps.{By, fit_set, others_fit, sits_longer, has_set}
+use Rattle.lt_turn.proofs.Keeps.{at_self, whole_set, By, fit_set, others_fit, sits_longer, has_set}
 
 -- what a step is told; these tell nothing of it
 abbrev pub any : {S : Type 0} → Step S
@@ -72,6 +72,7 @@ module _ {H T X : Type 0} (stands : T → List X → Type 0) (value : H → Opti
     desk_fits = (first, refl, refl);
     home_fits = refl;
     views_fit = one;
+    whole = (0, first, refl, inl refl);
     fresh = λ i le. (refl, omega arith);
   }
     where
@@ -128,6 +129,7 @@ module _ {H T X : Type 0} (stands : T → List X → Type 0) (value : H → Opti
             sym (ap (λ (u : View X). u.number) is) ∙ f.2,
             refl,
           );
+          whole = (id, w, at_self s.views id m.0 w at, inl refl);
           fresh = λ i le. (of_other (suc i) 0 list (λ e. omega arith), (freshly s k id w i le).1);
         },
         (refl, ap (λ (c : List (ℕ × Option H)). (0, None) ∷ c) none_out),
@@ -157,6 +159,7 @@ module _ {H T X : Type 0} (stands : T → List X → Type 0) (value : H → Opti
           views_fit = fit_set s.views id w (held id) k.log k.owner
               (others_fit s.views id k.desk (held id) k.log k.log k.owner k.owner k.views_fit (subst (λ (d : Desk). By d id) (sym is) tt) tt (λ i v ne t. t))
               (refl, sits_as k.log k.owner id Holding m.0 g.1, g.2);
+          whole = whole_set k.log s.views id m.0 w at (λ t. t) k.whole;
           fresh = freshly s k id w;
         },
         ((λ _. refl), (λ ne. absurd (ne (found ∙ zero_now))), refl),
@@ -181,6 +184,7 @@ module _ {H T X : Type 0} (stands : T → List X → Type 0) (value : H → Opti
           desk_fits = k.desk_fits;
           home_fits = k.home_fits;
           views_fit = k.views_fit;
+          whole = k.whole;
           fresh = k.fresh;
         },
         ((λ z. absurd (omega arith)), (λ _. refl), refl),
@@ -229,6 +233,7 @@ module _ {H T X : Type 0} (stands : T → List X → Type 0) (value : H → Opti
                 f.2,
                 refl,
               );
+          whole = (id, w, at_self s.views id m.0 w at, inl refl);
           fresh = freshly s k id w;
         },
         (k.log, h.0, refl, refl, h.2, f.1.seen, sym f.1.opening, accounts k.log k.owner id m.0 f.1 f.2, ap (λ (ws : List ℕ). slice_index ws 1) k.words),
@@ -279,6 +284,7 @@ module _ {H T X : Type 0} (stands : T → List X → Type 0) (value : H → Opti
                 f.2,
                 same,
               ));
+          whole = (id, w, at_self s.views id m.0 w at, inl same);
           fresh = λ i le. let h = freshly s k id w i le in let l = length-set s.views id w in
               (of_behind (suc i) (suc id) k.log list (λ q. omega arith) ∙ h.0, h.1);
         },
@@ -307,6 +313,7 @@ module _ {H T X : Type 0} (stands : T → List X → Type 0) (value : H → Opti
           views_fit = fit_set s.views id w free k.log k.owner
               (others_fit s.views id k.desk free k.log k.log k.owner k.owner k.views_fit (subst (λ (d : Desk). By d id) (sym f.0) refl) tt (λ i v ne t. t))
               (tt, sits_as k.log k.owner id Idle m.0 f.1, f.2);
+          whole = (id, w, at_self s.views id m.0 w at, inl f.3);
           fresh = freshly s k id w;
         },
         (refl, refl),
@@ -333,6 +340,7 @@ module _ {H T X : Type 0} (stands : T → List X → Type 0) (value : H → Opti
           views_fit = fit_set s.views id w (shut id) k.log k.owner
               (others_fit s.views id k.desk (shut id) k.log k.log k.owner k.owner k.views_fit (subst (λ (d : Desk). By d id) (sym f.0) refl) tt (λ i v ne t. t))
               (refl, sits_as k.log k.owner id Shut m.0 f.1, f.2);
+          whole = (id, w, at_self s.views id m.0 w at, inl f.3);
           fresh = freshly s k id w;
         },
         (refl, refl),

@@ -125,11 +125,16 @@ module _ {X : Type 0} where
     pub one_at_most : (i : ℕ) (v : View X) → get_elem? views i ≡ some v → HasAs v.role i desk
     pub there : DeskFits desk views
 
-  -- all that was seen begins one list, and the count word is its length
+  -- a view that has seen the whole list, or has it from a seat that was joined into it just now
+  abbrev pub KnowsAll : List (ℕ × X) → View X → Type 0
+  KnowsAll log v = (v.seen ≡ log) ⊎ (v.told ≡ log)
+
+  -- all that was seen begins one list, which is the longest of it; the count word is its length
   pub record OneList (log : List (ℕ × X)) (words : List ℕ) (views : List (View X)) : Type 0 where
     pub lock : ℕ
     pub words_are : words ≡ lock ∷ length log ∷ []
     pub begins : (i : ℕ) (v : View X) → get_elem? views i ≡ some v → SeesAs v.role log v
+    pub longest : (i : ℕ) × (v : View X) × (get_elem? views i ≡ some v) × KnowsAll log v
 
   -- each number's entries are accounted for at one view, and a number that is not given yet has no entry
   pub record NumbersApart (log : List (ℕ × X)) (owner : ℕ → ℕ) (views : List (View X)) : Type 0 where

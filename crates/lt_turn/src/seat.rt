@@ -14,7 +14,7 @@ pub struct Seat<T: Stands, B: Ledger> {
 }
 
 impl<T: Stands, B: Ledger> Model for Seat<T, B> {
-    ghost use Rattle.std.specs.Prelude.{◌≡◌, ℕ, ◌+◌, ◌<◌, length};
+    ghost use Rattle.std.specs.Prelude.{◌≡◌, ℕ, ◌+◌, ◌<◌, [], length};
     ghost use Rattle.atomic_table.specs.Seated.{TableId};
     ghost use Rattle.lt_turn.specs.declared.view.View.{View as Knows};
 
@@ -25,5 +25,5 @@ impl<T: Stands, B: Ledger> Model for Seat<T, B> {
 
     ghost view = { λ s. (s.pass.table_id, (s.pass.me.0, s.share.parts)) };
 
-    ghost invariant = { λ s. Carries (λ h. h.value) (λ h. h.book.total) s.pass.me.0 s.pass.me.1 × (0 < s.share.parts) × (s.share.amount ≡ length s.pass.me.0.mine + total s.pass.me.0.ended) };
+    ghost invariant = { λ s. Carries (λ h. h.value) (λ h. h.book.total) s.pass.me.0 s.pass.me.1 × (0 < s.share.parts) × (s.share.amount ≡ length s.pass.me.0.mine + total s.pass.me.0.ended) × (s.pass.me.0.told ≡ []) };
 }

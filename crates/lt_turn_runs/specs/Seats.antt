@@ -1,8 +1,7 @@
 -- A seat that waits to take its turn, and what its own entries sum up to.
-use Rattle.std.specs.Prelude.{◌≡◌, ℕ, List}
-use Rattle.std.specs.List.{sum}
+use Rattle.std.specs.Prelude.{◌≡◌, ℕ}
 use Rattle.lt_turn.specs.Lists.{of}
-use Rattle.lt_turn.specs.Seats.{Sitting, TurnName, IsOf, IsIdle, mine, ended, parts, seen}
+use Rattle.lt_turn.specs.Seats.{Sitting, TurnName, IsOf, IsIdle, ended, parts, seen}
 
 abbrev pub IsReady : Sitting ℕ → TurnName → Type 0
 IsReady s turn = IsOf s turn × IsIdle s

@@ -69,6 +69,19 @@ pub fn add<B: Ledger, R: Wait>(
     }
 }
 
+/// Takes one turn, adds nothing, and answers the sum.
+pub fn look<B: Ledger, R: Wait>(rt: &R, turn: &Turn<Counter, B>, seat: &mut Seat<Counter, B>) -> u64
+    requires ready { IsReady seat.old turn.now }
+    ensures ready { IsReady seat.new turn.now }
+    ensures later { IsLater seat.old seat.new }
+    ensures mine { mine seat.new ≡ mine seat.old }
+{
+    let counter = turn.enter(rt, seat);
+    let sum = counter.sum;
+    put_back(turn, seat, counter);
+    sum
+}
+
 /// Adds an amount as often, and answers what was added by this.
 pub fn add_many<B: Ledger, R: Wait>(
     rt: &R,

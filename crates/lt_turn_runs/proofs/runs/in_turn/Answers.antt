@@ -1,5 +1,5 @@
-use Rattle.std.proofs.Common.{◌≡◌, ℕ, ◌+◌, List, [], ◌∷◌, ◌++◌, refl, sym, ap, ◌∙◌, arith}
-use Rattle.std.specs.List.{sum, sum_by}
+use Rattle.std.proofs.Common.{◌≡◌, ℕ, ◌+◌, List, [], ◌∷◌, ◌++◌, ap, ◌∙◌, arith}
+use Rattle.std.specs.List.{sum}
 use Rattle.lt_turn.specs.Lists.{of, sums}
 use Rattle.lt_turn.specs.Seats.{seen, mine, ended, parts, number}
 use Rattle.lt_turn.proofs.Sums.{closed_sum}

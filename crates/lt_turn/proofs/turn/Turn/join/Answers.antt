@@ -14,7 +14,7 @@ join_seat-requires g c =
       ap (λ s. s.0) c.other.view_is ∙ (c.requires.turn.1 ∙ sym c.self.view_is),
       carries_idle _ _ c.other.inside.pass.me.0 c.other.inside.pass.me.1 c.other.invariant.0 theirs,
       omega (arith, c.self.invariant.0),
-      joins_views _ _ _ _ _ _ _ mine theirs,
+      joins_views _ _ _ _ _ _ _ mine theirs c.seat.invariant.3 c.other.invariant.3,
     )
 
 pub load-requires : goal.load-requires
@@ -42,4 +42,5 @@ invariant_of-seat g c =
       ),
       omega (arith, c.merge.ensures.parts, c.seat.invariant.1),
       sym all ∙ ap (λ (u : View g.row.T-Entry.Denot). length u.mine + total u.ended) (sym is),
+      ap (λ (u : View g.row.T-Entry.Denot). u.told) is,
     )
