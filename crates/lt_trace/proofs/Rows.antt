@@ -189,5 +189,5 @@ rows_below o before (bound_entry bound ∷ entries) note follows among = omega (
 rows_below o before (schema_entry change ∷ entries) note follows among = omega (arith, rows_below o (before ++ schema_entry change ∷ []) entries note follows.1 among, ap (λ (es : List Entry). next (record { opening = o; entries = es })) (append_assoc before (schema_entry change ∷ []) entries))
 rows_below o before (kept_entry number ∷ entries) note follows among = omega (arith, rows_below o (before ++ kept_entry number ∷ []) entries note follows.1 among, ap (λ (es : List Entry). next (record { opening = o; entries = es })) (append_assoc before (kept_entry number ∷ []) entries))
 
-pub rows_below_next : (h : History) (note : Note) → IsLegal h → Contains (notes_in h.entries) note → note.seq + 1 ≤ next h
-rows_below_next h note legal among = rows_below h.opening [] h.entries note legal.follows among
+pub rows_below_next : (h : History) (note : Note) → EachFollows h.opening [] h.entries → Contains (notes_in h.entries) note → note.seq + 1 ≤ next h
+rows_below_next h note follows among = rows_below h.opening [] h.entries note follows among

@@ -1,0 +1,15 @@
+pub mod Growing
+pub mod Images
+pub mod Past
+pub mod Sparing
+pub mod Flush
+pub mod Jobs
+pub mod Closed
+pub mod Committed
+pub mod Outlives
+pub mod Others
+pub mod Faults
+pub mod Joining
+pub mod Verdict
+pub mod Inserting
+pub mod Counts
