@@ -1,12 +1,15 @@
 //! The program: the real ends, the words of the command line, and the status as an exit code.
 #![tactic(auto)]
 
+ghost use Rattle.std.specs.Prelude.{◌<◌, IfOk, vec_len};
+
 use lt_filedev::{FileDevice, FileDir, OpenError};
 use lt_io::{FixedClock, ReaderSource, WriterSink};
 use lt_serve::{Status, creation_of, is_run, run};
+use std::io::ErrorKind;
 use std::process::ExitCode;
 use std::time::SystemTime;
-use std::{env, io};
+use std::{env, fmt, io};
 
 const HELP: &str = "vashmoon: a log-free, time-clustered table store
 
@@ -26,11 +29,23 @@ const VERSION: &str = "vashmoon 0.1.0";
 /// The greatest moment, in microseconds since the Unix epoch.
 const LATEST: u64 = (1 << 62) - 1;
 
+// Tells what went wrong. The status says it too, so a standard error that can't be written changes nothing.
+fn tell<T: fmt::Display>(rt: &HostRuntime, what: &T) {
+    let _ = eprintln!(rt; "vashmoon: {what}");
+}
+
+fn show(rt: &HostRuntime, text: &str) -> Status {
+    match println!(rt; "{text}") {
+        Ok(()) => Status::Done,
+        Err(_) => Status::SinkFault,
+    }
+}
+
 // The words after the program's name. None where one isn't UTF-8.
 fn words(rt: &HostRuntime) -> io::Result<Option<Vec<String>>> {
     match env::args(rt) {
         Ok(args) => Ok(Some(args.skip(1).collect(rt.alloc())?)),
-        Err(error) if error.kind() == io::ErrorKind::InvalidData => Ok(None),
+        Err(error) if error.kind() == ErrorKind::InvalidData => Ok(None),
         Err(error) => Err(error),
     }
 }
@@ -55,11 +70,19 @@ fn open(rt: &HostRuntime, given: &[String]) -> Result<FileDir, OpenError> {
     }
 }
 
-// Does what the words ask for in that directory, and tells the first trouble with it.
-fn serve(rt: &HostRuntime, given: &[String], dir: FileDir) -> io::Result<ExitCode> {
-    let clock = clock(rt)?;
+// One device does all that is asked for today.
+fn devices(rt: &HostRuntime, dir: &FileDir) -> io::Result<Vec<FileDevice<HostRuntime>>>
+    ensures { IfOk result (λ devices. 0 < vec_len devices) }
+{
     let mut devices = Vec::new(rt.alloc());
-    devices.push(FileDevice::new(rt, &dir)?)?;
+    devices.push(FileDevice::new(rt, dir)?)?;
+    Ok(devices)
+}
+
+// Does what the words ask for in that directory, and tells the first trouble with it.
+fn serve(rt: &HostRuntime, given: &[String], dir: FileDir) -> Result<Status, OpenError> {
+    let clock = clock(rt)?;
+    let mut devices = devices(rt, &dir)?;
     let mut source = ReaderSource::new(rt.stdin());
     let mut sink = WriterSink::new(rt.stdout());
     let (status, _dir) = run(
@@ -72,28 +95,35 @@ fn serve(rt: &HostRuntime, given: &[String], dir: FileDir) -> io::Result<ExitCod
         &clock,
     );
     if let Some(trouble) = devices[0].first_trouble() {
-        eprintln!(rt; "vashmoon: {trouble}")?;
+        tell(rt, trouble);
     }
-    Ok(ExitCode::from(status.code()))
+    Ok(status)
 }
 
-// Opens the folder and serves; a folder that is not opened is a device that failed.
-fn begin(rt: &HostRuntime, given: &[String]) -> io::Result<ExitCode> {
-    match open(rt, given) {
-        Ok(dir) => serve(rt, given, dir),
-        Err(refused) => {
-            eprintln!(rt; "vashmoon: {refused}")?;
-            Ok(ExitCode::from(Status::DeviceFault.code()))
-        }
-    }
-}
-
-fn main(rt: HostRuntime) -> io::Result<ExitCode> {
-    let words = words(&rt)?.unwrap_or(Vec::new(rt.alloc()));
+fn answer(rt: &HostRuntime) -> Result<Status, OpenError> {
+    let words = words(rt)?.unwrap_or(Vec::new(rt.alloc()));
     match words.as_slice() {
-        [word] if word.as_str() == "--help" => println!(rt; "{HELP}")?,
-        [word] if word.as_str() == "--version" => println!(rt; "{VERSION}")?,
-        given => return begin(&rt, given),
+        [word] if word.as_str() == "--help" => Ok(show(rt, HELP)),
+        [word] if word.as_str() == "--version" => Ok(show(rt, VERSION)),
+        given => serve(rt, given, open(rt, given)?),
     }
-    Ok(ExitCode::SUCCESS)
+}
+
+// A folder that is not opened is a device that failed.
+fn status_of(refused: &OpenError) -> Status {
+    match refused {
+        OpenError::NoMemory => Status::NoMemory,
+        OpenError::InUse | OpenError::System(_) => Status::DeviceFault,
+    }
+}
+
+fn main(rt: HostRuntime) -> ExitCode {
+    let status = match answer(&rt) {
+        Ok(status) => status,
+        Err(refused) => {
+            tell(&rt, &refused);
+            status_of(&refused)
+        }
+    };
+    ExitCode::from(status.code())
 }

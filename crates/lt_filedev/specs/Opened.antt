@@ -9,6 +9,10 @@ pub record Opened : Type 0 where
   pub lends : ℕ
   pub spare : ℕ
 
+-- nothing was lent of it yet
+abbrev pub IsUnused : Opened → Type 0
+IsUnused opened = (opened.lends ≡ 0) × (opened.spare ≡ 0)
+
 -- it tells no contents
 abbrev pub directory_of : Opened → Directory
 directory_of opened = record {

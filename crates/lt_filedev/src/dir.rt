@@ -1,15 +1,16 @@
 ghost use Rattle.std.specs.Prelude.{◌≡◌, ◌≤◌, ◌<◌, ◌+◌, ◌^◌, IfOk, max};
+ghost use Rattle.lt_filedev.specs.Opened.{IsUnused};
 
 use crate::lock::{OpenError, lock};
 use crate::names::{Name, PathText};
-use crate::opening::{clear_left_over, is_there, make_folder, open_folder, with_slash};
+use crate::opening::{is_there, make_folder, open_folder, sort_out_all, with_slash};
 use crate::system::System;
 use std::alloc::Global;
 use std::fs::File;
 use std::io;
 use std::marker::Model;
 
-/// A folder as a directory. It is locked for as long as the value lives, unless it is not there or has no descriptor.
+/// A folder as a directory. It is locked for as long as the value lives, unless it is not there.
 #[derive(Debug, Drop)]
 pub struct FileDir {
     // Ended by a slash.
@@ -19,6 +20,7 @@ pub struct FileDir {
     _lock: Option<File>,
     // A sync of the folder failed. What is on the disk is not known from then on, and a later sync may hide it.
     unsure: bool,
+    // Above each entered file that was there when it was opened, so none of them is written over.
     ceiling: u64,
     lends: u64,
     spare: u64,
@@ -36,15 +38,16 @@ impl Model for FileDir {
 }
 
 impl FileDir {
-    fn of(path: String, folder: Option<File>, lock: Option<File>) -> FileDir
-        ensures { result ≡ record { ceiling = 0; lends = 0; spare = 0 } }
+    fn of(path: String, folder: Option<File>, lock: Option<File>, ceiling: u64) -> FileDir
+        requires { ceiling ≤ 2 ^ 62 }
+        ensures { result ≡ record { ceiling = ceiling; lends = 0; spare = 0 } }
     {
         FileDir {
             path,
             folder,
             _lock: lock,
             unsure: false,
-            ceiling: 0,
+            ceiling,
             lends: 0,
             spare: 0,
         }
@@ -54,27 +57,28 @@ impl FileDir {
     pub fn absent(alloc: Global, path: &str) -> io::Result<FileDir>
         ensures { IfOk result (λ dir. dir ≡ record { ceiling = 0; lends = 0; spare = 0 }) }
     {
-        Ok(FileDir::of(with_slash(alloc, path)?, None, None))
+        Ok(FileDir::of(with_slash(alloc, path)?, None, None, 0))
     }
 
-    /// The folder of that path, if it is there. It is locked where it has a descriptor.
+    /// The folder of that path, locked. One without a descriptor is taken for one that is not there: nothing of it is read that
+    /// another program may be writing.
     pub fn open<R: System>(system: &R, path: &str) -> Result<FileDir, OpenError>
-        ensures { IfOk result (λ dir. dir ≡ record { ceiling = 0; lends = 0; spare = 0 }) }
+        ensures { IfOk result IsUnused }
     {
         let Some(folder) = open_folder(system, path)? else {
             return Ok(FileDir::absent(system.alloc(), path)?);
         };
-        let path = with_slash(system.alloc(), path)?;
-        let mut names = PathText::new(system.alloc(), path.as_str())?;
+        let with_end = with_slash(system.alloc(), path)?;
+        let mut names = PathText::new(system.alloc(), with_end.as_str())?;
         if !is_there(system, names.of(Name::Descriptor)?)? {
-            return Ok(FileDir::of(path, Some(folder), None));
+            return Ok(FileDir::absent(system.alloc(), path)?);
         }
-        FileDir::locked(system, path, folder)
+        FileDir::locked(system, with_end, folder)
     }
 
     /// The folder of that path, locked. It is made where it is not there; the one that it lies in has to be there.
     pub fn make<R: System>(system: &R, path: &str) -> Result<FileDir, OpenError>
-        ensures { IfOk result (λ dir. dir ≡ record { ceiling = 0; lends = 0; spare = 0 }) }
+        ensures { IfOk result IsUnused }
     {
         let folder = match open_folder(system, path)? {
             Some(folder) => folder,
@@ -84,12 +88,12 @@ impl FileDir {
     }
 
     fn locked<R: System>(system: &R, path: String, folder: File) -> Result<FileDir, OpenError>
-        ensures { IfOk result (λ dir. dir ≡ record { ceiling = 0; lends = 0; spare = 0 }) }
+        ensures { IfOk result IsUnused }
     {
         let mut names = PathText::new(system.alloc(), path.as_str())?;
         let lock = lock(system, names.of(Name::Lock)?)?;
-        clear_left_over(system, path.as_str())?;
-        Ok(FileDir::of(path, Some(folder), Some(lock)))
+        let ceiling = sort_out_all(system, path.as_str())?;
+        Ok(FileDir::of(path, Some(folder), Some(lock), ceiling))
     }
 
     /// The folder's path, ended by a slash.

@@ -3,7 +3,7 @@ ghost use Rattle.std.specs.List.Sorted.{IsStrictlyIncreasing};
 
 use crate::handles::FileReader;
 use crate::names::{Name, PathText, number_of};
-use crate::opening::is_there;
+use crate::opening::{is_there, named};
 use crate::system::System;
 use std::alloc::Global;
 use std::fs::{DirEntry, File};
@@ -42,11 +42,9 @@ fn create_new<R: System>(system: &R, path: &str) -> io::Result<File> {
 fn listed<R: System>(entry: io::Result<DirEntry<R>>) -> io::Result<Option<u64>>
     ensures { IfOk result (λ found. IfSome found (λ number. number < 2 ^ 62)) }
 {
-    match entry {
-        Ok(entry) => Ok(number_of(entry.file_name())),
-        // A name that is no text is another program's.
-        Err(error) if error.kind() == ErrorKind::InvalidFilename => Ok(None),
-        Err(error) => Err(error),
+    match named(entry)? {
+        Some(entry) => Ok(number_of(entry.file_name())),
+        None => Ok(None),
     }
 }
 

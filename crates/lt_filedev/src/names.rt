@@ -1,5 +1,6 @@
-ghost use Rattle.std.specs.Prelude.{◌≡◌, ◌<◌, ◌^◌, ◌++◌, ℕ, Some, decimal, IfOk, IfSome, string_bytes};
-ghost use Rattle.lt_filedev.specs.Names.{name_text};
+ghost use Rattle.std.specs.Prelude.{◌≡◌, ◌<◌, ◌^◌, ◌++◌, ℕ, true, Some, decimal, IfOk, IfSome, string_bytes};
+ghost use Rattle.lt_filedev.specs.Names.{name_text, IsLeftOver};
+ghost use Rattle.lt_filedev.specs.declared.names.Name.TheVariants.{File as Entered, Unentered as Begun};
 
 use itoa::Buffer;
 use std::alloc::Global;
@@ -59,12 +60,20 @@ pub(crate) fn number_of(name: &str) -> Option<u64>
     }
 }
 
-/// Whether the name is one that a stopped run may have left for a file that was never entered.
-pub(crate) fn is_left_over(name: &str) -> bool {
-    match name.strip_prefix("vashmoon-") {
-        Some(rest) => rest.ends_with(".new"),
-        None => false,
-    }
+/// The number of a file that was begun, if that is what the name says.
+fn begun_number_of(name: &str) -> Option<u64>
+    ensures says { IfSome result (λ number. name.now ≡ name_text (Begun number)) }
+{
+    let digits = name.strip_prefix("vashmoon-")?.strip_suffix(".new")?;
+    number_of(digits)
+}
+
+/// Whether a stopped run may have left the name. No entered file has such a one.
+pub(crate) fn is_left_over(name: &str) -> bool
+    ensures only { result ≡ true → IsLeftOver name.now }
+    ensures entered { result ≡ true → (number : ℕ) → number < 2 ^ 62 → ¬ (name.now ≡ name_text (Entered number)) }
+{
+    name == "vashmoon-descriptor.new" || begun_number_of(name).is_some()
 }
 
 /// Paths in a folder, each written over the one before.

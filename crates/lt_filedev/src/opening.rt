@@ -1,4 +1,7 @@
-use crate::names::{Name, PathText, is_left_over};
+ghost use Rattle.std.specs.Prelude.{◌≡◌, ◌≤◌, ◌<◌, ◌^◌, ℕ, IfOk, decimal};
+ghost use Rattle.std.specs.Fs.{dir_entry_name};
+
+use crate::names::{Name, PathText, is_left_over, number_of};
 use crate::system::System;
 use std::alloc::Global;
 use std::fs::{DirEntry, File};
@@ -44,20 +47,42 @@ pub(crate) fn is_there<R: System>(system: &R, path: &str) -> io::Result<bool> {
     }
 }
 
-fn remove_left_over<R: System>(system: &R, entry: io::Result<DirEntry<R>>) {
-    let Ok(entry) = entry else {
-        return;
-    };
-    if is_left_over(entry.file_name()) {
-        // What stays takes room, and is no harm else.
-        let _ = fs::remove_file(system, entry.path());
+/// The entry, if its name is text. A name that is none is another program's.
+pub(crate) fn named<R: System>(entry: io::Result<DirEntry<R>>) -> io::Result<Option<DirEntry<R>>> {
+    match entry {
+        Ok(entry) => Ok(Some(entry)),
+        Err(error) if error.kind() == ErrorKind::InvalidFilename => Ok(None),
+        Err(error) => Err(error),
     }
 }
 
-/// Removes what stopped runs left of files that were never entered.
-pub(crate) fn clear_left_over<R: System>(system: &R, folder: &str) -> io::Result<()> {
-    for entry in fs::read_dir(system, folder)? {
-        remove_left_over(system, entry);
+/// Removes the entry where a stopped run left it. Gives a ceiling that is also above the file, where it is an entered one.
+fn sort_out<R: System>(system: &R, entry: &DirEntry<R>, ceiling: u64) -> u64
+    requires { ceiling ≤ 2 ^ 62 }
+    ensures no_lower { ceiling ≤ result }
+    ensures above { (number : ℕ) → number < 2 ^ 62 → dir_entry_name entry.now ≡ decimal number → number < result }
+    ensures in_range { result ≤ 2 ^ 62 }
+{
+    let name = entry.file_name();
+    if is_left_over(name) {
+        // What stays takes room, and is no harm else.
+        let _ = fs::remove_file(system, entry.path());
     }
-    Ok(())
+    match number_of(name) {
+        Some(number) => ceiling.max(number + 1),
+        None => ceiling,
+    }
+}
+
+/// Removes what stopped runs left of files that were never entered. Gives a number above each entered file.
+pub(crate) fn sort_out_all<R: System>(system: &R, folder: &str) -> io::Result<u64>
+    ensures in_range { IfOk result (λ ceiling. ceiling ≤ 2 ^ 62) }
+{
+    let mut ceiling = 0;
+    for entry in fs::read_dir(system, folder)? {
+        if let Some(entry) = named(entry)? {
+            ceiling = sort_out(system, &entry, ceiling);
+        }
+    }
+    Ok(ceiling)
 }

@@ -1,6 +1,6 @@
 ghost use Rattle.std.specs.Prelude.{◌<◌, IfOk};
 
-use lt_filedev::{FileDevice, FileDir, FileReader, OpenError};
+use lt_filedev::{FileDevice, FileDir, FileLent, FileReader, OpenError};
 use lt_io::{Device, DeviceError};
 use std::fs;
 use std::io::ErrorKind;
@@ -9,15 +9,22 @@ use std::test::Fail;
 
 type Real = FileDevice<HostRuntime>;
 
-/// The bytes in two parts as a sealed file of the next free number.
-fn sealed(device: &mut Real, dir: &mut FileDir, bytes: &[u8]) -> Result<FileReader, Fail>
-    ensures { IfOk result (λ reader. reader.number < dir.new.ceiling) }
+/// The next free number.
+fn lent(device: &mut Real, dir: &mut FileDir) -> Result<FileLent, Fail>
+    ensures { IfOk result (λ lent. lent < dir.new.ceiling) }
 {
     let file = device.list(dir)?.ceiling;
     if file >= 1 << 62 {
         return Err(Fail::new("no number is left"));
     }
-    let lent = Real::lend(dir, file);
+    Ok(Real::lend(dir, file))
+}
+
+/// The bytes in two parts as a sealed file of the next free number.
+fn sealed(device: &mut Real, dir: &mut FileDir, bytes: &[u8]) -> Result<FileReader, Fail>
+    ensures { IfOk result (λ reader. reader.number < dir.new.ceiling) }
+{
+    let lent = lent(device, dir)?;
     let mut pen = device.create(lent).ok().ok_or("no pen")?;
     let (front, rest) = bytes.split_at(bytes.len() / 2);
     device.append(&mut pen, front)?;
@@ -130,6 +137,50 @@ fn names_of_others_are_left_alone(rt: HostRuntime) -> Result<(), Fail> {
     Ok(())
 }
 
+#[test]
+fn what_a_stopped_run_left_is_removed_when_it_is_opened(rt: HostRuntime) -> Result<(), Fail> {
+    fs::create_dir(&rt, "stopped")?;
+    let kept = [
+        "3",
+        "vashmoon-03.new",
+        "vashmoon-.new",
+        "vashmoon-notes.new",
+        "vashmoon-3.newer",
+        "DESCRIPTOR",
+    ];
+    for name in ["vashmoon-3.new", "vashmoon-descriptor.new"]
+        .iter()
+        .chain(kept.iter())
+    {
+        fs::write(&rt, format!(in rt.alloc(); "stopped/{name}")?.as_str(), "")?;
+    }
+    let dir = FileDir::open(&rt, "stopped")?;
+    for name in kept {
+        let path = format!(in rt.alloc(); "stopped/{name}")?;
+        assert!(rt; fs::exists(&rt, path.as_str())?, "{name}");
+    }
+    assert_eq!(rt;
+        fs::read_dir(&rt, "stopped")?.count(),
+        7,
+        "these and the lock"
+    );
+    assert_eq!(rt;
+        FileDevice::new(&rt, &dir)?.list(&dir)?.files.as_slice(),
+        [3].as_slice()
+    );
+    Ok(())
+}
+
+#[test]
+fn a_folder_without_a_descriptor_is_not_looked_into(rt: HostRuntime) -> Result<(), Fail> {
+    fs::create_dir(&rt, "empty")?;
+    let dir = FileDir::open(&rt, "empty")?;
+    fs::write(&rt, "empty/DESCRIPTOR", "another program's, by now")?;
+    let mut device = FileDevice::new(&rt, &dir)?;
+    assert!(rt; device.descriptor(&dir)?.is_none());
+    Ok(())
+}
+
 /// Whether the first trouble that the device met is told so.
 fn tells(rt: &HostRuntime, device: &Real, text: &str) -> Result<bool, Fail> {
     match device.first_trouble() {
@@ -164,7 +215,7 @@ fn a_folder_that_is_not_there_holds_nothing(rt: HostRuntime) -> Result<(), Fail>
     device.settle(&mut dir)?;
     assert!(rt; device.descriptor(&dir)?.is_none());
     assert!(rt; device.list(&dir)?.files.is_empty());
-    let lent = Real::lend(&mut dir, 0);
+    let lent = lent(&mut device, &mut dir)?;
     assert!(rt; device.create(lent).is_err());
     assert!(rt; !fs::exists(&rt, "nowhere")?);
     Ok(())
