@@ -1,4 +1,4 @@
-ghost use Rattle.std.specs.Prelude.{◌≡◌, [], ◌∷◌, ◌++◌, List, ℕ, length, IfOk, IfErr};
+ghost use Rattle.std.specs.Prelude.{◌≡◌, ◌+◌, ◌≤◌, ◌^◌, ◌⊎◌, [], ◌∷◌, ◌++◌, List, ℕ, length, IfOk, IfErr};
 ghost use Rattle.std.specs.List.{sum};
 ghost use Rattle.lt_turn_runs.specs.Counts.{Counts};
 
@@ -34,6 +34,7 @@ impl Counter {
     pub fn with(self, amount: u32) -> Result<Counter, Counter>
         ensures ok { IfOk result (λ c. (list : List ℕ) → Counts self.sum self.adds list → Counts c.sum c.adds (list ++ amount ∷ [])) }
         ensures unchanged { IfErr result (λ c. c ≡ self) }
+        ensures full { IfErr result (λ _. (2 ^ 64 ≤ self.sum + amount) ⊎ (2 ^ 64 ≤ self.adds + 1)) }
     {
         match (
             self.sum.checked_add(u64::from(amount)),

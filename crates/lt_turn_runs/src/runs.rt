@@ -1,4 +1,4 @@
-ghost use Rattle.std.specs.Prelude.{◌≡◌, ℕ, ◌+◌, ◌<◌, ◌≤◌, ◌*◌, ◌^◌, [], ◌∷◌, ◌++◌, MatchBool, IfSome, true, false};
+ghost use Rattle.std.specs.Prelude.{◌≡◌, ℕ, ◌+◌, ◌<◌, ◌≤◌, ◌*◌, ◌^◌, ◌⊎◌, length, [], ◌∷◌, ◌++◌, MatchBool, IfSome, true, false};
 ghost use Rattle.std.specs.List.{sum};
 ghost use Rattle.lt_turn.specs.Lists.{entries, of};
 ghost use Rattle.lt_turn.specs.Seats.{IsOf, IsIdle, Holds, view, mine, ended, parts, seen};
@@ -41,11 +41,12 @@ fn put_back<B: Ledger>(turn: &Turn<Counter, B>, seat: &mut Seat<Counter, B>, cou
     ensures ready { IsReady seat.new turn.now }
     ensures later { IsLater seat.old seat.new }
     ensures mine { mine seat.new ≡ mine seat.old }
+    ensures seen { seen seat.new ≡ seen seat.old }
 {
     turn.leave::<Brand>(seat, counter);
 }
 
-/// Adds an amount in one turn, and says whether it did.
+/// Adds an amount in one turn, and says whether it did. It does not where the sum would not fit, or the number of adds.
 pub fn add<B: Ledger, R: Wait>(
     rt: &R,
     turn: &Turn<Counter, B>,
@@ -56,6 +57,7 @@ pub fn add<B: Ledger, R: Wait>(
     ensures ready { IsReady seat.new turn.now }
     ensures later { IsLater seat.old seat.new }
     ensures mine { MatchBool result (mine seat.new ≡ mine seat.old ++ amount ∷ []) (mine seat.new ≡ mine seat.old) }
+    ensures full { result ≡ false → (2 ^ 64 ≤ sum (entries (seen seat.new)) + amount) ⊎ (2 ^ 64 ≤ length (entries (seen seat.new)) + 1) }
 {
     match turn.enter(rt, seat).with(amount) {
         Ok(counter) => {
@@ -75,6 +77,7 @@ pub fn look<B: Ledger, R: Wait>(rt: &R, turn: &Turn<Counter, B>, seat: &mut Seat
     ensures ready { IsReady seat.new turn.now }
     ensures later { IsLater seat.old seat.new }
     ensures mine { mine seat.new ≡ mine seat.old }
+    ensures sum { result ≡ sum (entries (seen seat.new)) }
 {
     let counter = turn.enter(rt, seat);
     let sum = counter.sum;
