@@ -54,4 +54,3 @@ pub others_split_none : OthersSplitNone
 others_split_none h more none settled whole one other in_one in_other same above =
     let placed = same_placed h more none in
     omega (arith, settled, whole one other (subst (λ (ps : List Placed). Contains ps one) placed in_one) (subst (λ (ps : List Placed). Contains ps other) placed in_other) same (omega (arith, settled, above)))
-

@@ -98,4 +98,3 @@ publish_keeps_past h recs new_recs anchor tablets memory file begin stone new le
           }))
           past.sure;
     }
-

@@ -40,4 +40,3 @@ backed_opens h recs state image stone legal backed fits descriptor = record {
   crash = record { schemas = refl; ttl = refl; low = refl; next = refl; kept = refl; rows_left = refl };
   given = backed.given;
 }
-
