@@ -1,11 +1,11 @@
 -- A core's count fits a word.
-use Rattle.std.proofs.Common.{◌≡◌, ℕ, ◌+◌, ◌-◌, ◌^◌, ◌≤◌, List, [], ◌∷◌, ◌++◌, max, length, refl, arith}
+use Rattle.std.proofs.Common.{◌≡◌, ℕ, ◌+◌, ◌^◌, ◌≤◌, List, [], ◌∷◌, ◌++◌, max, length, refl, arith}
 use Rattle.lt_model.specs.History.{Opening, Entry, row_entry, bound_entry, schema_entry, kept_entry}
 use Rattle.lt_model.specs.Readings.{rows_in, next}
 use Rattle.lt_model.specs.Legal.{EachFollows}
 use Rattle.lt_model.proofs.Fronts.{next-extended_by_row, next-extended_by_none}
 use Rattle.lt_trace.specs.Elements.{Element, entry, held, free, entries_in}
-use Rattle.lt_state.specs.Stands.{files_used, frees_in, RiseWithin}
+use Rattle.lt_state.specs.Stands.{files_used, frees_in, RiseTo}
 use Rattle.lt_state.specs.Laws.{CountFits}
 
 -- each element is a row, took a file, or is a number from which on files were free
@@ -18,9 +18,9 @@ length_parts (entry (kept_entry number) ∷ es) = omega (arith, length_parts es)
 length_parts (held note ∷ es) = omega (arith, length_parts es)
 length_parts (free number ∷ es) = omega (arith, length_parts es)
 
-rises_within : (least : ℕ) (numbers : List ℕ) (most : ℕ) → RiseWithin least numbers most → length numbers ≤ most + 1 - least
-rises_within least [] most rises = omega arith
-rises_within least (number ∷ more) most rises = omega (arith, rises.0, rises.1, rises_within (number + 1) more most rises.2)
+rises_within : (least : ℕ) (numbers : List ℕ) (end : ℕ) → RiseTo least numbers end → least + length numbers ≤ end
+rises_within least [] end rises = omega (arith, rises)
+rises_within least (number ∷ more) end rises = omega (arith, rises.0, rises_within (number + 1) more end rises.1)
 
 rows_fit : (o : Opening) (before entries : List Entry) → EachFollows o before entries → next (record { opening = o; entries = before }) + length (rows_in entries) ≤ max (next (record { opening = o; entries = before })) (2 ^ 62)
 rows_fit o before [] follows = omega arith
@@ -33,4 +33,4 @@ rows_fit o before (kept_entry number ∷ entries) follows = omega (arith, next-e
 
 pub count_fits : CountFits
 count_fits told c s stands =
-    omega (arith, stands.count_is, length_parts s.since, rows_fit s.opening [] (entries_in s.since) stands.follows, stands.lent.used, stands.lent.next_file, stands.files.most, rises_within 0 (frees_in s.since) c.next_file stands.files.frees)
+    omega (arith, stands.count_is, length_parts s.since, rows_fit s.opening [] (entries_in s.since) stands.follows, stands.lent.used, stands.lent.next_file, stands.files.most, stands.files.freed, rises_within 0 (frees_in s.since) c.freed stands.files.frees)

@@ -19,7 +19,7 @@ use Rattle.lt_state.specs.State.{Core, Sealed, Filled, listing, IsOwn}
 use Rattle.lt_state.specs.Memory.{AreTablets}
 use Rattle.lt_state.specs.Facts.{Source, in_file, in_tablet, Holds, IsSafe}
 use Rattle.lt_state.specs.Flushes.{AddsRecord}
-use Rattle.lt_state.specs.Stands.{Reads, LentSince, AreBelow, AreTickets, RiseWithin, Stands, frees_in}
+use Rattle.lt_state.specs.Stands.{Reads, LentSince, AreBelow, AreTickets, RiseTo, Stands, frees_in}
 use Rattle.lt_state.specs.Laws.{HasNoKey, with_record, InsertStands}
 use Rattle.lt_state.proofs.Growing.{grown_history, grown_notes, files_used-append, frees_in-append, next_tablet_row, kept_within, tablets_of_rows-row}
 use Rattle.lt_state.proofs.Outlives.{facts_outlive}
@@ -81,7 +81,8 @@ below_more c notes since numbered tablet left dependencies files =
       ceiling = files.ceiling;
       noted = files.noted;
       named = files.named;
-      frees = subst (λ (ns : List ℕ). RiseWithin 0 ns c.next_file) (sym same) files.frees;
+      frees = subst (λ (ns : List ℕ). RiseTo 0 ns c.freed) (sym same) files.frees;
+      freed = files.freed;
       most = files.most;
     }
 

@@ -44,27 +44,33 @@ frees_in (entry e ∷ more) = frees_in more
 frees_in (held note ∷ more) = frees_in more
 frees_in (free number ∷ more) = number ∷ frees_in more
 
--- the numbers rise from the least to the most
-abbrev pub RiseWithin : ℕ → List ℕ → ℕ → Type 0
-RiseWithin least [] most = Unit {0}
-RiseWithin least (number ∷ more) most = (least ≤ number) × (number ≤ most) × RiseWithin (number + 1) more most
+-- the numbers rise from the least on, and the end is one above the last
+abbrev pub RiseTo : ℕ → List ℕ → ℕ → Type 0
+RiseTo least [] end = least ≡ end
+RiseTo least (number ∷ more) end = (least ≤ number) × RiseTo (number + 1) more end
 
--- So many file numbers were lent since the story began. None was skipped, the ceiling is the first free one, and no element
--- came for nothing.
+-- how many file numbers are lent for tickets
+abbrev pub lent_out : List Ticket → ℕ
+lent_out [] = 0
+lent_out (ticket ∷ tickets) = length ticket.lent + lent_out tickets
+
+-- So many file numbers were lent since the story began. None was skipped, the ceiling is the first free one, and they are
+-- enough for the elements that took a file and for the tickets that are out.
 pub record LentSince (told : Bool) (c : Core) (began : Began) (since : List Element) : Type 0 where
   pub more : ℕ
   pub lends : c.anchor.directory.lends ≡ began.lends + more
   pub next_file : c.next_file ≡ began.free + more
   pub none : told ≡ true → more ≡ 0 → c.anchor.directory.now.ceiling ≡ began.ceiling
   pub some : told ≡ true → 0 < more → c.anchor.directory.now.ceiling ≡ c.next_file
-  pub used : files_used since ≤ more
+  pub used : files_used since + lent_out c.tickets ≤ more
 
 -- files that are noted, named by a possible stone or below the ceiling are below the next file number
 pub record AreBelow (c : Core) (notes : List Noted) (since : List Element) : Type 0 where
   pub ceiling : c.anchor.directory.now.ceiling ≤ c.next_file
   pub noted : (file : ℕ) → is_noted notes file ≡ true → file < c.next_file
   pub named : (file : ℕ) → IsNamed c.anchor.may file → file < c.next_file
-  pub frees : RiseWithin 0 (frees_in since) c.next_file
+  pub frees : RiseTo 0 (frees_in since) c.freed
+  pub freed : c.freed ≤ c.next_file + 1
   pub most : c.next_file ≤ 2 ^ 62
 
 -- a file number that is lent for a ticket: below the ceiling, of no noted file, and named by no possible stone

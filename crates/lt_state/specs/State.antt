@@ -29,6 +29,7 @@ pub record Ticket : Type 0 where
   pub lent : List ℕ
   pub handed : List ℕ
 
+-- A core. `freed` is one above the last file number that was noted as free, or 0.
 pub record Core : Type 0 where
   pub next : ℕ
   pub low : ℕ
@@ -40,6 +41,7 @@ pub record Core : Type 0 where
   pub next_tablet : ℕ
   pub dependencies : Kept
   pub next_file : ℕ
+  pub freed : ℕ
   pub next_ticket : ℕ
   pub tickets : List Ticket
   pub anchor : Anchored

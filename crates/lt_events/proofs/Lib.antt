@@ -1,0 +1,6 @@
+pub mod Lending
+pub mod Tickets
+pub mod Spent
+pub mod Entering
+pub mod Altering
+pub mod Loading

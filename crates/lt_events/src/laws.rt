@@ -1,0 +1,32 @@
+//! Laws of the definitions. None of these functions does anything: their contracts are what they are for.
+ghost use Rattle.lt_events.specs.Laws.{LoadStands, RoomBegins, LendStands, TicketStands, ReleaseStands, SpentStands, SpentIsNoted, SpareStands, AlterStands, AlterFaultStands};
+
+/// A core that was loaded stands for what its stone opens to.
+pub fn a_load_stands()
+    ensures { LoadStands }
+{}
+
+/// While file numbers are lent, and tickets go out and come back, a core stands for the same story.
+pub fn tickets_stand()
+    ensures room { RoomBegins }
+    ensures lend { LendStands }
+    ensures ticket { TicketStands }
+    ensures release { ReleaseStands }
+{}
+
+/// It is noted once from which number on files are free.
+pub fn spent_numbers_are_noted()
+    ensures stands { SpentStands }
+    ensures noted { SpentIsNoted }
+{}
+
+/// While files come and go that no possible stone names, a core stands for the same story.
+pub fn entered_and_swept_files_stand()
+    ensures { SpareStands }
+{}
+
+/// A change of the schema that was published, and one whose publishing failed.
+pub fn a_change_stands()
+    ensures ok { AlterStands }
+    ensures fault { AlterFaultStands }
+{}
