@@ -43,7 +43,7 @@ use Rattle.lt_events.specs.Laws.{AlterStands, AlterFaultStands}
 use Rattle.lt_events.proofs.Lending.{reads_lent, lent_one, told_parts}
 
 -- where a chain begins and where it ends
-steps_end : (R : State → State → Type 0) → IsPreorder R → (old new : Directory) → Steps R old new → R old.now new.now
+pub steps_end : (R : State → State → Type 0) → IsPreorder R → (old new : Directory) → Steps R old new → R old.now new.now
 steps_end R order old new steps =
     FromOn-steps R (R old.now) (λ before after more so_far. order.further old.now before after so_far more) (moment old) old new (omega arith) steps
     (FromOn-now (R old.now) old (order.itself old.now)) (moment new) new.now steps.later (get_seam new.past [] new.now)

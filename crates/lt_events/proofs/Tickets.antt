@@ -1,11 +1,12 @@
 -- Tickets go out and come back.
-use Rattle.std.proofs.Common.{◌≡◌, ◌⊎◌, ℕ, ◌+◌, ◌≤◌, Bool, true, false, List, [], ◌∷◌, ◌++◌, map, length, Contains, refl, sym, ◌∙◌, ap, subst, ⊎_elim, arith}
+use Rattle.std.proofs.Common.{◌≡◌, ◌⊎◌, ℕ, ◌+◌, ◌≤◌, Bool, true, false, List, [], ◌∷◌, ◌++◌, map, length, Contains, refl, sym, ◌∙◌, ap, subst, ⊎_elim, arith, eq-eqb}
 use Rattle.std.proofs.lemmas.List.Elements.{Contains-push_cases}
 use Rattle.std.specs.Prelude.{not, nat_eq, filter, cond}
 use Rattle.std.specs.List.Sorted.{IsStrictlyIncreasing}
 use Rattle.std.proofs.lemmas.List.Kept.{IsStrictlyIncreasing-filter}
 use Rattle.lt_trace.specs.Elements.{Noted, Began, Element, history_of, notes_of, is_noted}
 use Rattle.lt_model.specs.History.{History}
+use Rattle.lt_model.proofs.Verdicts.{Contains-cons_cases}
 use Rattle.lt_trace.proofs.Lists.{kept_was}
 use Rattle.lt_state.specs.State.{Core, Ticket, IsOwn}
 use Rattle.lt_state.specs.Facts.{IsSafe}
@@ -101,7 +102,7 @@ ticket_stands told c s ticket stands number rising once room free handed =
 
 -- ---- a ticket comes back
 
-numbers_without : (number : ℕ) (tickets : List Ticket) → map (λ (t : Ticket). t.number) (without number tickets) ≡ filter (λ n. not (nat_eq n number)) (map (λ (t : Ticket). t.number) tickets)
+pub numbers_without : (number : ℕ) (tickets : List Ticket) → map (λ (t : Ticket). t.number) (without number tickets) ≡ filter (λ n. not (nat_eq n number)) (map (λ (t : Ticket). t.number) tickets)
 numbers_without number [] = refl
 numbers_without number (t ∷ tickets) = either (not (nat_eq t.number number)) t (without number tickets) (filter (λ n. not (nat_eq n number)) (map (λ (x : Ticket). x.number) tickets)) (numbers_without number tickets)
   where
@@ -116,6 +117,22 @@ fewer_lent number (t ∷ tickets) = either (not (nat_eq t.number number)) t (wit
     either : (b : Bool) (t : Ticket) (ts : List Ticket) (n : ℕ) → lent_out ts ≤ n → lent_out (cond b (t ∷ ts) ts) ≤ length t.lent + n
     either true t ts n below = omega (arith, below)
     either false t ts n below = omega (arith, below)
+
+-- and the numbers of the one that came back are not lent for tickets any more
+pub released_lent : (ticket : Ticket) (tickets : List Ticket) → Contains tickets ticket → lent_out (without ticket.number tickets) + length ticket.lent ≤ lent_out tickets
+released_lent ticket [] among = absurd (omega (arith, among.1))
+released_lent ticket (t ∷ tickets) among = ⊎_elim
+    (λ same. here t same (nat_eq t.number ticket.number) (eq-eqb t.number ticket.number (ap (λ (x : Ticket). x.number) same)) (fewer_lent ticket.number tickets))
+    (λ later. there (not (nat_eq t.number ticket.number)) (released_lent ticket tickets later))
+    (Contains-cons_cases t tickets ticket among)
+  where
+    here : (t : Ticket) → t ≡ ticket → (b : Bool) → b ≡ true → lent_out (without ticket.number tickets) ≤ lent_out tickets → lent_out (cond (not b) (t ∷ without ticket.number tickets) (without ticket.number tickets)) + length ticket.lent ≤ length t.lent + lent_out tickets
+    here t same true e fewer = omega (arith, fewer, ap (λ (x : Ticket). length x.lent) same)
+    here t same false e fewer = cc
+
+    there : (b : Bool) → lent_out (without ticket.number tickets) + length ticket.lent ≤ lent_out tickets → lent_out (cond b (t ∷ without ticket.number tickets) (without ticket.number tickets)) + length ticket.lent ≤ length t.lent + lent_out tickets
+    there true fewer = omega (arith, fewer)
+    there false fewer = omega (arith, fewer)
 
 pub release_stands : ReleaseStands
 release_stands told c s number stands =

@@ -1,4 +1,5 @@
 //! Laws of the definitions. None of these functions does anything: their contracts are what they are for.
+ghost use Rattle.lt_events.specs.Flushing.{FlushStands};
 ghost use Rattle.lt_events.specs.Laws.{LoadStands, RoomBegins, LendStands, TicketStands, ReleaseStands, SpentStands, SpentIsNoted, SpareStands, AlterStands, AlterFaultStands};
 
 /// A core that was loaded stands for what its stone opens to.
@@ -29,4 +30,9 @@ pub fn entered_and_swept_files_stand()
 pub fn a_change_stands()
     ensures ok { AlterStands }
     ensures fault { AlterFaultStands }
+{}
+
+/// A flush that was published.
+pub fn a_flush_stands()
+    ensures { FlushStands }
 {}

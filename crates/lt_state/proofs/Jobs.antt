@@ -71,7 +71,7 @@ module _ (h : History) (old_recs new_recs : ℕ → List Record) (tablets : List
     (in_memory : IsMemory h memory) (whole : IsWhole old_recs files own) (own_tablets : own.tablets ≡ tablets) (own_schemas : own.schemas ≡ schemas h) (keys : KeysApart (Holds old_recs tablets memory))
     (new_schemas : new.schemas ≡ schemas h)
     (each : (listed : Listed) → Contains new.tablets listed → StoodBefore old_recs new_recs own.tablets listed ⊎ IsFlushed memory parts files new_recs listed)
-    (alone : (one other : Listed) (a : IsFlushed memory parts files new_recs one) (b : IsFlushed memory parts files new_recs other) → a.tablet.number ≡ b.tablet.number → one.file ≡ other.file) where
+    (alone : (one other : Listed) → Contains new.tablets one → Contains new.tablets other → (a : IsFlushed memory parts files new_recs one) (b : IsFlushed memory parts files new_recs other) → a.tablet.number ≡ b.tablet.number → one.file ≡ other.file) where
   file_of_each : (listed : Listed) → StoodBefore old_recs new_recs own.tablets listed ⊎ IsFlushed memory parts files new_recs listed → HasFile files listed (new_recs listed.file)
   file_of_each listed (inl stood) = subst (HasFile files listed) (sym stood.same) (whole.files_are listed stood.listed_before)
   file_of_each listed (inr flushed) = flushed.file
@@ -98,11 +98,11 @@ module _ (h : History) (old_recs new_recs : ℕ → List Record) (tablets : List
   }
   was_held listed rec (inr flushed) among = record { tablet = flushed.tablet; held = flushed.held; number_is = refl; among = subst (λ (rs : List Record). Contains rs rec) flushed.records among }
 
-  same_file : (one other : Listed) (a : StoodBefore old_recs new_recs own.tablets one ⊎ IsFlushed memory parts files new_recs one) (b : StoodBefore old_recs new_recs own.tablets other ⊎ IsFlushed memory parts files new_recs other) → from one a ≡ from other b → one.file ≡ other.file
-  same_file one other (inl a) (inl b) same = let e : in_file one.file ≡ in_file other.file = same in cc
-  same_file one other (inl a) (inr b) same = let e : in_file one.file ≡ in_tablet b.tablet.number = same in cc
-  same_file one other (inr a) (inl b) same = let e : in_tablet a.tablet.number ≡ in_file other.file = same in cc
-  same_file one other (inr a) (inr b) same = let e : in_tablet a.tablet.number ≡ in_tablet b.tablet.number = same in alone one other a b (let n : a.tablet.number ≡ b.tablet.number = cc in n)
+  same_file : (one other : Listed) → Contains new.tablets one → Contains new.tablets other → (a : StoodBefore old_recs new_recs own.tablets one ⊎ IsFlushed memory parts files new_recs one) (b : StoodBefore old_recs new_recs own.tablets other ⊎ IsFlushed memory parts files new_recs other) → from one a ≡ from other b → one.file ≡ other.file
+  same_file one other in_one in_other (inl a) (inl b) same = let e : in_file one.file ≡ in_file other.file = same in cc
+  same_file one other in_one in_other (inl a) (inr b) same = let e : in_file one.file ≡ in_tablet b.tablet.number = same in cc
+  same_file one other in_one in_other (inr a) (inl b) same = let e : in_tablet a.tablet.number ≡ in_file other.file = same in cc
+  same_file one other in_one in_other (inr a) (inr b) same = let e : in_tablet a.tablet.number ≡ in_tablet b.tablet.number = same in alone one other in_one in_other a b (let n : a.tablet.number ≡ b.tablet.number = cc in n)
 
   pub in_new : (file : ℕ) (rec : Record) (a : InFile new_recs new.tablets file rec) → Contains (new_recs a.tablet.file) rec
   in_new file rec a = subst (λ (n : ℕ). Contains (new_recs n) rec) (sym a.file_is) a.among
@@ -117,7 +117,7 @@ module _ (h : History) (old_recs new_recs : ℕ → List Record) (tablets : List
     apart = λ one other rec same a b key.
         let from_a = each a.tablet a.listed in
         let from_b = each b.tablet b.listed in
-        sym a.file_is ∙ same_file a.tablet b.tablet from_a from_b (keys (from a.tablet from_a) (from b.tablet from_b) rec same (was_held a.tablet rec from_a (in_new one rec a)) (was_held b.tablet same from_b (in_new other same b)) key) ∙ b.file_is;
+        sym a.file_is ∙ same_file a.tablet b.tablet a.listed b.listed from_a from_b (keys (from a.tablet from_a) (from b.tablet from_b) rec same (was_held a.tablet rec from_a (in_new one rec a)) (was_held b.tablet same from_b (in_new other same b)) key) ∙ b.file_is;
   }
 
 pub flush_is_whole : FlushIsWhole

@@ -98,7 +98,7 @@ FlushIsWhole = (h : History) (old_recs new_recs : ℕ → List Record) (tablets 
     → IsMemory h memory → IsWhole old_recs files own → own.tablets ≡ tablets → own.schemas ≡ schemas h → KeysApart (Holds old_recs tablets memory)
     → IsStone new → stone_at (spelling new) ≡ Ok new → new.schemas ≡ schemas h
     → (each : (listed : Listed) → Contains new.tablets listed → StoodBefore old_recs new_recs own.tablets listed ⊎ IsFlushed memory parts files new_recs listed)
-    → ((one other : Listed) (a : IsFlushed memory parts files new_recs one) (b : IsFlushed memory parts files new_recs other) → a.tablet.number ≡ b.tablet.number → one.file ≡ other.file)
+    → ((one other : Listed) → Contains new.tablets one → Contains new.tablets other → (a : IsFlushed memory parts files new_recs one) (b : IsFlushed memory parts files new_recs other) → a.tablet.number ≡ b.tablet.number → one.file ≡ other.file)
     → IsWhole new_recs files new
 
 -- memory is without the tablets that went
@@ -115,7 +115,7 @@ FlushKeepsFacts = (h : History) (old_recs new_recs : ℕ → List Record) (ancho
     -- what the entered files are, and that the old ones still stand
     → IsWhole old_recs new.now.files own
     → ((listed : Listed) → Contains stone.tablets listed → StoodBefore old_recs new_recs tablets listed ⊎ IsFlushed memory parts new.now.files new_recs listed)
-    → ((one other : Listed) (a : IsFlushed memory parts new.now.files new_recs one) (b : IsFlushed memory parts new.now.files new_recs other) → a.tablet.number ≡ b.tablet.number → one.file ≡ other.file)
+    → ((one other : Listed) → Contains stone.tablets one → Contains stone.tablets other → (a : IsFlushed memory parts new.now.files new_recs one) (b : IsFlushed memory parts new.now.files new_recs other) → a.tablet.number ≡ b.tablet.number → one.file ≡ other.file)
     -- each old one stays, and each tablet that goes has a file
     → ((listed : Listed) → Contains tablets listed → Contains stone.tablets listed × (new_recs listed.file ≡ old_recs listed.file))
     → ((number : ℕ) (rec : Record) → has parts number ≡ true → InMemory memory number rec → IsOn new_recs stone.tablets rec)
