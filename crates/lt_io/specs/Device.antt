@@ -32,11 +32,13 @@ pub record EntersFile (old new : Directory) (number : ℕ) (bytes : List ℕ) (r
   pub failed : IsErrOf result Failed → Moves old new (loosened old.now number)
   pub others : SeesOthers old.seen new.seen number
 
--- `remove`: nothing is known of the file any more, and after Ok a read doesn't give it
+-- `remove`: nothing is known of the file any more. After Ok a read doesn't give it, and after `Failed` neither where it was
+-- not there before.
 pub record RemovesFile (old new : Directory) (number : ℕ) (result : Result (Unit {0}) DeviceError) : Type 0 where
   pub ok : OnOk result (Moves old new (loosened old.now number))
   pub failed : IsErrOf result Failed → Moves old new (loosened old.now number)
   pub gone : OnOk result (file_at new.seen.files number ≡ None)
+  pub none : file_at old.seen.files number ≡ None → file_at new.seen.files number ≡ None
   pub others : SeesOthers old.seen new.seen number
 
 -- `point`: the bytes join the possible descriptors; a read gives them after Ok, and the old descriptor or them after `Failed`

@@ -126,7 +126,7 @@ pub trait Device: Send + Drop {
         ensures spare { spare dir.new + 1 ≡ spare dir.old }
         ensures cause { HasCause (faults self.old) (faults self.new) result };
 
-    /// Takes a file away. After Ok and after `Failed` nothing is known of it any more.
+    /// Takes a file away. After Ok and after `Failed` nothing is known of it any more, and one that was not there is not there.
     fn remove(&mut self, dir: &mut Self::Dir, file: u64) -> Result<(), DeviceError>
         ensures removed { honest ≡ true → RemovesFile (directory dir.old) (directory dir.new) file result }
         ensures unchanged { IsErrOf result DeviceError.NoMemory → directory dir.new ≡ directory dir.old }
