@@ -1,12 +1,9 @@
 -- A change of the schema is published, or its publishing fails.
-use Rattle.std.proofs.Common.{◌≡◌, ◌⊎◌, ℕ, ◌+◌, ◌^◌, ◌≤◌, ◌<◌, Bool, true, List, [], ◌∷◌, ◌++◌, map, Option, Some, None, Ok, Contains, refl, sym, ◌∙◌, ap, subst, inl, inr, ⊎_elim, arith, length-append}
+use Rattle.std.proofs.Common.{◌≡◌, ℕ, ◌+◌, ◌^◌, ◌≤◌, ◌<◌, Bool, true, List, [], ◌∷◌, ◌++◌, map, Option, Some, None, Ok, Contains, refl, sym, ◌∙◌, ap, subst, arith, length-append}
 use Rattle.std.specs.Prelude.{filter, nat_le}
 use Rattle.std.proofs.lemmas.List.{append-nil}
-use Rattle.std.proofs.lemmas.List.Elements.{Contains-push, Contains-push_cases, Contains-append_left}
-use Rattle.lt_io.specs.Directory.{Contents, State, Directory, lent, moment}
-use Rattle.lt_io.specs.Steps.{Steps, IsPreorder}
-use Rattle.lt_io.proofs.Moments.{get_seam}
-use Rattle.lt_io.proofs.Chains.{FromOn-now, FromOn-steps}
+use Rattle.lt_io.specs.Directory.{Contents, moment}
+use Rattle.lt_io.specs.Steps.{Steps}
 use Rattle.lt_rec.specs.Record.{Record}
 use Rattle.lt_rec.specs.declared.listed.Listed.{Listed}
 use Rattle.lt_deps.specs.Kept.{StandsFor as DependenciesStandFor}
@@ -38,18 +35,10 @@ use Rattle.lt_state.specs.Stands.{Reads, LentSince, AreBelow, IsLent, AreTickets
 use Rattle.lt_state.proofs.Growing.{grown_history, grown_notes, files_used-append, frees_in-append, kept_within}
 use Rattle.lt_state.proofs.Others.{published_facts, others_leave_memory, others_split_none}
 use Rattle.lt_state.proofs.Past.{publish_keeps_past}
-use Rattle.lt_events.specs.Cores.{with_lent, with_change, changed_stone, with_schemas}
+use Rattle.lt_events.specs.Cores.{with_change, changed_stone, with_schemas}
 use Rattle.lt_events.specs.Laws.{AlterStands, AlterFaultStands}
-use Rattle.lt_events.proofs.Lending.{reads_lent, lent_one, told_parts}
-
--- where a chain begins and where it ends
-pub steps_end : (R : State → State → Type 0) → IsPreorder R → (old new : Directory) → Steps R old new → R old.now new.now
-steps_end R order old new steps =
-    FromOn-steps R (R old.now) (λ before after more so_far. order.further old.now before after so_far more) (moment old) old new (omega arith) steps
-    (FromOn-now (R old.now) old (order.itself old.now)) (moment new) new.now steps.later (get_seam new.past [] new.now)
-
-some_is : (a b : StoneShape) → Some a ≡ Some b → a ≡ b
-some_is a b e = cc
+use Rattle.lt_events.proofs.Failing.{steps_end, some_is, stands_failed}
+use Rattle.lt_events.proofs.Lending.{lent_one}
 
 tablets_stay : (h : History) (change : Change) → tablets_of_rows (extended h (schema_entry change ∷ [])) ≡ tablets_of_rows h
 tablets_stay h change =
@@ -239,125 +228,21 @@ alter_stands told c s change after stands admitted lawful room anchored then may
 
 -- ---- its publishing failed
 
-module _ (told : Bool) (c : Core) (h : History) (notes : List Noted) (began : Began) (since : List Element) (change : Change) (after : Anchored)
-    (stands : Stands told c h notes began since) (admitted : alter_refusal (newest c.schemas) change ≡ None) (lawful : IsStone (changed_stone c change)) (room : c.next_file < 2 ^ 62)
-    (anchored : IsAnchored told c.anchor) (then : IsAnchored told after) (may : (after.may ≡ c.anchor.may) ⊎ (after.may ≡ c.anchor.may ++ Some (changed_stone c change) ∷ []))
-    (steps : told ≡ true → Steps (Replaces c.next_file (spelling (changed_stone c change))) c.anchor.directory after.directory)
-    (either : told ≡ true → (after.directory ≡ lent c.anchor.directory c.next_file) ⊎ (stone_at (spelling (changed_stone c change)) ≡ Ok (changed_stone c change)))
-    (ceiling : after.directory.now.ceiling ≡ c.next_file + 1) (lends : after.directory.lends ≡ c.anchor.directory.lends + 1) where
-  abbrev failed : StoneShape
-  failed = changed_stone c change
-
-  joined_cases : (other : Option StoneShape) → after.may ≡ c.anchor.may ++ Some failed ∷ [] → Contains after.may other → Contains c.anchor.may other ⊎ (Some failed ≡ other)
-  joined_cases other joined among = Contains-push_cases c.anchor.may (Some failed) other (subst (λ (m : List (Option StoneShape)). Contains m other) joined among)
-
-  -- a stone that is possible now was possible, or is the one that failed, which is read back then
-  was_or_failed : (other : StoneShape) → Contains after.may (Some other) → Contains c.anchor.may (Some other) ⊎ ((failed ≡ other) × (stone_at (spelling failed) ≡ Ok failed))
-  was_or_failed other among = ⊎_elim
-      (λ same. inl (subst (λ (m : List (Option StoneShape)). Contains m (Some other)) same among))
-      (λ joined. ⊎_elim
-      (λ was. inl was)
-      (λ new. let one : failed ≡ other = some_is failed other new in inr (one, then.readable failed (subst (λ (s : StoneShape). Contains after.may (Some s)) (sym one) among)))
-      (joined_cases (Some other) joined among))
-      may
-
-  stays : (other : StoneShape) → Contains c.anchor.may (Some other) → Contains after.may (Some other)
-  stays other was = ⊎_elim
-      (λ same. subst (λ (m : List (Option StoneShape)). Contains m (Some other)) (sym same) was)
-      (λ joined. subst (λ (m : List (Option StoneShape)). Contains m (Some other)) (sym joined) (Contains-append_left c.anchor.may (Some failed ∷ []) (Some other) was))
-      may
-
-  named_before : (file : ℕ) → IsNamed after.may file → IsNamed c.anchor.may file
-  named_before file named = ⊎_elim
-      (λ was. record { stone = named.stone; possible = was; listed = named.listed })
-      (λ new. own_names told c h notes began since change after stands admitted lawful anchored steps file (ap (λ (s : StoneShape). lists_file s.tablets file) new.0 ∙ named.listed))
-      (was_or_failed named.stone named.possible)
-
-  facts_failed : SixFacts told stands.safe.recs h after (listing c) c.memory
-  facts_failed = record {
-    entered = λ tells other among. subst (λ (f : Contents). IsWhole stands.safe.recs f other) (sym (files_stay told c h notes began since change after stands admitted lawful anchored steps tells)) (⊎_elim
-        (λ was. stands.safe.facts.entered tells other was)
-        (λ new. subst (IsWhole stands.safe.recs c.anchor.directory.now.files) new.0 (whole told c h notes began since change after stands admitted lawful anchored steps new.1 tells))
-        (was_or_failed other among));
-    rows = λ tells other among. ⊎_elim
-        (λ was. stands.safe.facts.rows tells other was)
-        (λ new. subst (HoldsRows stands.safe.recs h) new.0 (holds told c h notes began since change after stands admitted lawful anchored steps tells))
-        (was_or_failed other among);
-    settled = λ other among. ⊎_elim
-        (λ was. stands.safe.facts.settled other was)
-        (λ new. subst (IsSettled h) new.0 (settled_here told c h notes began since change after stands admitted lawful anchored steps))
-        (was_or_failed other among);
-    lows = λ other among. ⊎_elim
-        (λ was. stands.safe.facts.lows other was)
-        (λ new. omega (arith, stands.reads.low_is, ap (λ (s : StoneShape). s.low) new.0))
-        (was_or_failed other among);
-    unsettled = stands.safe.facts.unsettled;
-    keys = stands.safe.facts.keys;
-  }
-
-  past_failed : told ≡ true → PastOpens h began.moment after.directory
-  past_failed tells = ⊎_elim
-      (λ same. ⊎_elim
-      (λ lent_only. (told_parts told c h notes began (record { directory = after.directory; may = c.anchor.may }) anchored stands.some (λ again. lent_only) refl stands.safe tells).0)
-      (λ read. past_here told c h notes began since change after stands admitted lawful anchored steps read tells)
-      (either tells))
-      (λ joined. past_here told c h notes began since change after stands admitted lawful anchored steps
-      (then.readable failed (subst (λ (m : List (Option StoneShape)). Contains m (Some failed)) (sym joined) (Contains-push c.anchor.may (Some failed)))) tells)
-      may
-
-  safe_failed : IsSafe told (with_lent c after) h notes began
-  safe_failed = record {
-    recs = stands.safe.recs;
-    noted = stands.safe.noted;
-    tablets = stands.safe.tablets;
-    facts = facts_failed;
-    legal = stands.safe.legal;
-    begun = begun_here told c h notes began since change after stands admitted lawful anchored steps;
-    past = past_failed;
-  }
-
-  lent_failed : (file : ℕ) → IsLent c notes file → IsLent (with_lent c after) notes file
-  lent_failed file is = record { below = omega (arith, is.below, ceiling, stands.files.ceiling); unnoted = is.unnoted; unnamed = λ named. is.unnamed (named_before file named) }
-
-  none_stays_out : Contains after.may None → ⊥
-  none_stays_out among = ⊎_elim
-      (λ same. stands.some (subst (λ (m : List (Option StoneShape)). Contains m None) same among))
-      (λ joined. ⊎_elim (λ was. stands.some was) (λ new. let e : Some failed ≡ None = new in cc) (joined_cases None joined among))
-      may
-
-  pub stands_failed : Stands told (with_lent c after) h notes began since
-  stands_failed = record {
-    reads = reads_lent c h after stands.reads;
-    opened = stands.opened;
-    follows = stands.follows;
-    memory = stands.memory;
-    tablets = stands.tablets;
-    dependencies = stands.dependencies;
-    own = (stands.own.0, stays stands.own.0 stands.own.1, record { kept = stands.own.2.kept; low = stands.own.2.low; ttl = stands.own.2.ttl; schemas = stands.own.2.schemas; tablets = stands.own.2.tablets });
-    some = none_stays_out;
-    listed = stands.listed;
-    once = stands.once;
-    lent = lent_one told c began since after ceiling lends stands.lent;
-    files = record {
-      ceiling = omega (arith, ceiling);
-      noted = λ file is. omega (arith, stands.files.noted file is);
-      named = λ file named. omega (arith, stands.files.named file (named_before file named));
-      frees = stands.files.frees;
-      freed = omega (arith, stands.files.freed);
-      most = omega (arith, room);
-    };
-    tickets = record {
-      rising = stands.tickets.rising;
-      below = stands.tickets.below;
-      once = stands.tickets.once;
-      lent = λ ticket file out covers. lent_failed file (stands.tickets.lent ticket file out covers);
-      apart = stands.tickets.apart;
-      handed = stands.tickets.handed;
-    };
-    count_is = stands.count_is;
-    safe = safe_failed;
-  }
-
 pub alter_fault_stands : AlterFaultStands
 alter_fault_stands told c s change after stands admitted lawful room anchored then may steps either ceiling lends =
-    stands_failed told c (history_of s) (notes_of s) s.began s.since change after stands admitted lawful room anchored then may steps either ceiling lends
+    let h = history_of s in
+    let notes = notes_of s in
+    let named : (file : ℕ) → lists_file (changed_stone c change).tablets file ≡ true → IsNamed c.anchor.may file = own_names told c h notes s.began s.since change after stands admitted lawful anchored steps in
+    stands_failed told c h notes s.began s.since (changed_stone c change) after stands (record {
+      recs = stands.safe.recs;
+      noted = stands.safe.noted;
+      tablets = stands.safe.tablets;
+      facts = stands.safe.facts;
+      whole = whole told c h notes s.began s.since change after stands admitted lawful anchored steps;
+      holds = holds told c h notes s.began s.since change after stands admitted lawful anchored steps;
+      settled = settled_here told c h notes s.began s.since change after stands admitted lawful anchored steps;
+      low = omega (arith, stands.reads.low_is);
+      no_lower = omega arith;
+      below = λ file listed. stands.files.named file (named file listed);
+      apart = λ ticket file out covers listed. (stands.tickets.lent ticket file out covers).unnamed (named file listed);
+    }) room anchored then may steps either ceiling lends

@@ -5,4 +5,7 @@ pub mod Spent
 pub mod Entering
 pub mod Altering
 pub mod Loading
+pub mod Listing
 pub mod Flushing
+pub mod Failing
+pub mod FlushFault

@@ -1,10 +1,12 @@
 -- A flush that was published.
-use Rattle.std.specs.Prelude.{ℕ, ◌+◌, ◌^◌, ◌≡◌, ◌≤◌, ◌<◌, ◌⊎◌, Bool, true, List, [], ◌∷◌, ◌++◌, length, map, Some, Contains}
+use Rattle.std.specs.Prelude.{ℕ, ◌+◌, ◌^◌, ◌≡◌, ◌≤◌, ◌<◌, ◌⊎◌, Bool, true, List, [], ◌∷◌, ◌++◌, length, map, Ok, Some, Contains}
+use Rattle.lt_io.specs.Directory.{lent}
 use Rattle.lt_io.specs.Steps.{Steps}
 use Rattle.lt_rec.specs.Closure.{has}
 use Rattle.lt_deps.specs.Kept.{Kept, StandsFor as DependenciesStandFor}
 use Rattle.lt_desc.specs.Shape.{StoneShape}
 use Rattle.lt_desc.specs.Lawful.{IsStone}
+use Rattle.lt_desc.specs.Reading.{stone_at}
 use Rattle.lt_desc.specs.Spelling.{spelling}
 use Rattle.lt_commit.specs.Anchored.{Anchored, IsAnchored}
 use Rattle.lt_commit.specs.Moments.{Replaces}
@@ -16,7 +18,7 @@ use Rattle.lt_state.specs.State.{Core, Sealed, Filled, Ticket}
 use Rattle.lt_state.specs.Memory.{AreTablets}
 use Rattle.lt_state.specs.Flushes.{TakesAlong, Leaves}
 use Rattle.lt_state.specs.Stands.{AreNotedOnce, StandsFor}
-use Rattle.lt_events.specs.Cores.{without}
+use Rattle.lt_events.specs.Cores.{without, with_lent, with_released}
 
 -- the stone that lists the tablets' files, and below whose number all is durable
 abbrev pub flushed_stone : Core → ℕ → List Sealed → StoneShape
@@ -90,3 +92,13 @@ FlushStands = (told : Bool) (c : Core) (s : Story) (flush : Flush) (after : Anch
     → (told ≡ true → Steps (Replaces c.next_file (spelling (flushed_stone c flush.number flush.listed))) c.anchor.directory after.directory)
     → after.directory.now.ceiling ≡ c.next_file + 1 → after.directory.lends ≡ c.anchor.directory.lends + 1
     → StandsFor told (with_flush c flush after) (grown s (flush_elements flush))
+
+-- Publishing it failed, so that its stone may be possible or not. The ticket came back: the core stands for the same story.
+abbrev pub FlushFaultStands : Type 0
+FlushFaultStands = (told : Bool) (c : Core) (s : Story) (flush : Flush) (after : Anchored)
+    → StandsFor told c s → IsFlush told c (history_of s) flush → IsStone (flushed_stone c flush.number flush.listed) → c.next_file < 2 ^ 62
+    → IsAnchored told c.anchor → IsAnchored told after → (after.may ≡ c.anchor.may) ⊎ (after.may ≡ c.anchor.may ++ Some (flushed_stone c flush.number flush.listed) ∷ [])
+    → (told ≡ true → Steps (Replaces c.next_file (spelling (flushed_stone c flush.number flush.listed))) c.anchor.directory after.directory)
+    → (told ≡ true → (after.directory ≡ lent c.anchor.directory c.next_file) ⊎ (stone_at (spelling (flushed_stone c flush.number flush.listed)) ≡ Ok (flushed_stone c flush.number flush.listed)))
+    → after.directory.now.ceiling ≡ c.next_file + 1 → after.directory.lends ≡ c.anchor.directory.lends + 1
+    → StandsFor told (with_released (with_lent c after) flush.ticket.number) s

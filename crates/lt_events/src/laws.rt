@@ -1,5 +1,5 @@
 //! Laws of the definitions. None of these functions does anything: their contracts are what they are for.
-ghost use Rattle.lt_events.specs.Flushing.{FlushStands};
+ghost use Rattle.lt_events.specs.Flushing.{FlushStands, FlushFaultStands};
 ghost use Rattle.lt_events.specs.Laws.{LoadStands, RoomBegins, LendStands, TicketStands, ReleaseStands, SpentStands, SpentIsNoted, SpareStands, AlterStands, AlterFaultStands};
 
 /// A core that was loaded stands for what its stone opens to.
@@ -32,7 +32,8 @@ pub fn a_change_stands()
     ensures fault { AlterFaultStands }
 {}
 
-/// A flush that was published.
+/// A flush that was published, and one whose publishing failed.
 pub fn a_flush_stands()
-    ensures { FlushStands }
+    ensures ok { FlushStands }
+    ensures fault { FlushFaultStands }
 {}
