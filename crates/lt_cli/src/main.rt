@@ -1,12 +1,15 @@
 //! The program: the real ends, the words of the command line, and the status as an exit code.
 #![tactic(auto)]
 
-ghost use Rattle.std.specs.Prelude.{◌<◌, IfOk, vec_len};
+#[cfg(test)]
+mod tests;
 
-use lt_filedev::{FileDevice, FileDir, OpenError};
-use lt_io::{FixedClock, ReaderSource, WriterSink};
+ghost use Rattle.std.specs.Prelude.{◌≡◌, IfOk, vec_len};
+
+use lt_filedev::{FileDevice, FileDir, OpenError, standard_input, standard_output};
+use lt_io::FixedClock;
 use lt_serve::{Status, creation_of, is_run, run};
-use std::io::ErrorKind;
+use std::io::{ErrorKind, Write};
 use std::process::ExitCode;
 use std::time::SystemTime;
 use std::{env, fmt, io};
@@ -28,6 +31,9 @@ const VERSION: &str = "vashmoon 0.1.0";
 
 /// The greatest moment, in microseconds since the Unix epoch.
 const LATEST: u64 = (1 << 62) - 1;
+
+/// One for each of 64 clients, one for flushing and one for merging. The first does all that is answered today.
+const DEVICES: usize = 66;
 
 // Tells what went wrong. The status says it too, so a standard error that can't be written changes nothing.
 fn tell<T: fmt::Display>(rt: &HostRuntime, what: &T) {
@@ -70,21 +76,28 @@ fn open(rt: &HostRuntime, given: &[String]) -> Result<FileDir, OpenError> {
     }
 }
 
-// One device does all that is asked for today.
 fn devices(rt: &HostRuntime, dir: &FileDir) -> io::Result<Vec<FileDevice<HostRuntime>>>
-    ensures { IfOk result (λ devices. 0 < vec_len devices) }
+    ensures { IfOk result (λ devices. vec_len devices ≡ DEVICES) }
 {
     let mut devices = Vec::new(rt.alloc());
-    devices.push(FileDevice::new(rt, dir)?)?;
+    devices.try_resize_with(DEVICES, || FileDevice::new(rt, dir))?;
     Ok(devices)
 }
 
-// Does what the words ask for in that directory, and tells the first trouble with it.
+// Writes the first trouble of each device that met one, a line each, in the devices' order.
+fn write_troubles<W: Write>(out: &mut W, devices: &[FileDevice<HostRuntime>]) -> io::Result<()> {
+    for trouble in devices.iter().filter_map(|device| device.first_trouble()) {
+        writeln!(out, "vashmoon: {trouble}")?;
+    }
+    Ok(())
+}
+
+// Does what the words ask for in that directory, and tells what its devices met.
 fn serve(rt: &HostRuntime, given: &[String], dir: FileDir) -> Result<Status, OpenError> {
     let clock = clock(rt)?;
     let mut devices = devices(rt, &dir)?;
-    let mut source = ReaderSource::new(rt.stdin());
-    let mut sink = WriterSink::new(rt.stdout());
+    let mut source = standard_input(rt);
+    let mut sink = standard_output(rt);
     let (status, _dir) = run(
         rt.alloc(),
         given,
@@ -94,9 +107,8 @@ fn serve(rt: &HostRuntime, given: &[String], dir: FileDir) -> Result<Status, Ope
         &mut devices,
         &clock,
     );
-    if let Some(trouble) = devices[0].first_trouble() {
-        tell(rt, trouble);
-    }
+    // As in `tell`.
+    let _ = write_troubles(&mut rt.stderr(), devices.as_slice());
     Ok(status)
 }
 

@@ -1,4 +1,4 @@
-ghost use Rattle.std.specs.Prelude.{◌≡◌, ◌≤◌, ◌<◌, ◌+◌, ◌^◌, [], false, All, IfOk, IfSome, IfNone, length};
+ghost use Rattle.std.specs.Prelude.{◌≡◌, ◌≤◌, ◌<◌, ◌+◌, ◌^◌, [], false, All, IfSome, IfNone};
 ghost use Rattle.lt_filedev.specs.Opened.{directory_of, untold};
 
 use crate::device::FileDevice;
@@ -9,20 +9,8 @@ use crate::trouble::Place;
 use bytes::Bytes;
 use lt_io::{Device, DeviceError, Failed, Listing};
 use lt_rec::{Files, NoMemory, Octets};
-use std::alloc::Global;
-use std::fs::File;
 use std::io;
 use std::io::{ErrorKind, Write};
-use std::os::unix::fs::FileExt;
-
-/// The bytes of that place in the file.
-fn read_piece(alloc: Global, file: &File, at: u64, len: usize) -> io::Result<Bytes>
-    ensures { IfOk result (λ given. length given ≡ len) }
-{
-    let mut piece = vec![in alloc; 0u8; len]?;
-    file.read_exact_at(piece.as_mut_slice(), at)?;
-    Ok(Bytes::from_vec(piece)?)
-}
 
 /// The greatest of the numbers.
 fn greatest(numbers: &[u64]) -> Option<u64>
@@ -206,7 +194,7 @@ impl<R: System + Send> Device for FileDevice<R> {
     }
 
     fn read_at(&mut self, reader: &FileReader, at: u64, len: u64) -> Result<Bytes, DeviceError> {
-        match read_piece(self.folder.alloc(), &reader.file, at, len as usize) {
+        match self.buffer.read(&reader.file, at, len as usize) {
             Ok(given) => Ok(given),
             Err(error) => Err(self.refuse(Place::File(reader.number), error)),
         }

@@ -4,6 +4,7 @@ ghost use Rattle.lt_io.specs.Cause.{Rose};
 ghost use Rattle.lt_io.specs.Device.{Counts};
 ghost use Rattle.lt_io.specs.declared.device_error.DeviceError.TheVariants.{Failed as Fault};
 
+use crate::buffer::ReadBuffer;
 use crate::dir::FileDir;
 use crate::folder::Folder;
 use crate::system::System;
@@ -15,6 +16,7 @@ use std::io;
 #[derive(Debug, Drop)]
 pub struct FileDevice<R: System> {
     pub(crate) folder: Folder<R>,
+    pub(crate) buffer: ReadBuffer,
     pub(crate) faults: u64,
     first: Option<Trouble>,
 }
@@ -27,6 +29,7 @@ impl<R: System> FileDevice<R> {
     {
         Ok(FileDevice {
             folder: Folder::new(system, dir.path(), dir.is_there())?,
+            buffer: ReadBuffer::new(system.alloc()),
             faults: 0,
             first: None,
         })

@@ -5,7 +5,6 @@ use crate::handles::FileReader;
 use crate::names::{Name, PathText, number_of};
 use crate::opening::{is_there, named};
 use crate::system::System;
-use std::alloc::Global;
 use std::fs::{DirEntry, File};
 use std::io::{ErrorKind, Read};
 use std::{fs, io};
@@ -66,10 +65,6 @@ impl<R: System> Folder<R> {
             to: PathText::new(system.alloc(), path)?,
             is_there,
         })
-    }
-
-    pub(crate) fn alloc(&self) -> Global {
-        self.system.alloc()
     }
 
     /// Begins an empty file, under a name that no listing shows.

@@ -1,5 +1,6 @@
 ghost use Rattle.std.specs.Prelude.{◌<◌, IfOk};
 
+use bytes::Bytes;
 use lt_filedev::{FileDevice, FileDir, FileLent, FileReader, OpenError};
 use lt_io::{Device, DeviceError};
 use std::fs;
@@ -38,6 +39,23 @@ fn has(device: &mut Real, reader: &FileReader, bytes: &[u8]) -> Result<bool, Fai
     Ok(device.read_at(reader, 0, length)?.as_slice() == bytes)
 }
 
+/// That many bytes from that place of the file on.
+fn piece(device: &mut Real, reader: &FileReader, at: u64, len: u64) -> Result<Bytes, Fail> {
+    let length = Real::length(reader);
+    if at > length || len > length - at {
+        return Err(Fail::new("the file is too short"));
+    }
+    Ok(device.read_at(reader, at, len)?)
+}
+
+/// Whether these bytes stand from that place on.
+fn stand_at(bytes: &[u8], at: u64, given: &[u8]) -> bool {
+    match bytes.get(at as usize..) {
+        Some(rest) => rest.starts_with(given),
+        None => false,
+    }
+}
+
 /// Whether the file is there and has these bytes.
 fn holds(device: &mut Real, dir: &FileDir, file: u64, bytes: &[u8]) -> Result<bool, Fail> {
     match device.fetch(dir, file)? {
@@ -72,6 +90,32 @@ fn a_file_is_there_from_its_entering_to_its_removal(rt: HostRuntime) -> Result<(
     assert!(rt; device.fetch(&dir, 0)?.is_none(), "removed");
     assert!(rt; has(&mut device, &reader, b"some bytes")?, "removed");
     assert!(rt; device.first_trouble().is_none());
+    Ok(())
+}
+
+#[test]
+fn reads_give_what_stands_at_their_offsets(rt: HostRuntime) -> Result<(), Fail> {
+    let mut dir = FileDir::make(&rt, "offsets")?;
+    let mut device = FileDevice::new(&rt, &dir)?;
+    let bytes: Vec<u8> = (0..200_000u32)
+        .map(|n| (n % 251) as u8)
+        .collect(rt.alloc())?;
+    let reader = sealed(&mut device, &mut dir, bytes.as_slice())?;
+    let mut held = Vec::new(rt.alloc());
+    for at in [0, 1, 100_001] {
+        for len in [0, 1, 32_768, 32_769, 50_000, 65_536, 65_537, 90_000] {
+            let given = piece(&mut device, &reader, at, len)?;
+            assert!(rt;
+                stand_at(bytes.as_slice(), at, given.as_slice()),
+                "{len} at {at}"
+            );
+            drop(given);
+            held.push((at, piece(&mut device, &reader, at, len)?))?;
+        }
+    }
+    for (at, given) in held.iter() {
+        assert!(rt; stand_at(bytes.as_slice(), *at, given.as_slice()), "held");
+    }
     Ok(())
 }
 
