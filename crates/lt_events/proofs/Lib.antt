@@ -9,3 +9,4 @@ pub mod Listing
 pub mod Flushing
 pub mod Failing
 pub mod FlushFault
+pub mod Committing

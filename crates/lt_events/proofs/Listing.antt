@@ -32,11 +32,11 @@ use Rattle.lt_events.proofs.Notes.{recs_with, recs_were, recs_are_noted, noted_o
 pub some_stone : (a b : StoneShape) → Some a ≡ Some b → a ≡ b
 some_stone a b e = cc
 
-record FirstOf (recs : List Record) : Type 0 where
-  rec : Record
-  among : Contains recs rec
+pub record FirstOf (recs : List Record) : Type 0 where
+  pub rec : Record
+  pub among : Contains recs rec
 
-first_of : (recs : List Record) → recs ≢ [] → FirstOf recs
+pub first_of : (recs : List Record) → recs ≢ [] → FirstOf recs
 first_of [] some = absurd (some refl)
 first_of (rec ∷ recs) some = record { rec = rec; among = first_in rec recs }
 

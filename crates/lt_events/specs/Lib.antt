@@ -1,3 +1,4 @@
 pub mod Cores
 pub mod Laws
 pub mod Flushing
+pub mod Committing

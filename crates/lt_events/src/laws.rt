@@ -1,6 +1,9 @@
 //! Laws of the definitions. None of these functions does anything: their contracts are what they are for.
+ghost use Rattle.lt_events.specs.Committing.{GivenTakesAlong, GivenIsSame};
 ghost use Rattle.lt_events.specs.Flushing.{FlushStands, FlushFaultStands};
 ghost use Rattle.lt_events.specs.Laws.{LoadStands, RoomBegins, LendStands, TicketStands, ReleaseStands, SpentStands, SpentIsNoted, SpareStands, AlterStands, AlterFaultStands};
+
+use lt_codec::rows_have_one_spelling;
 
 /// A core that was loaded stands for what its stone opens to.
 pub fn a_load_stands()
@@ -37,3 +40,11 @@ pub fn a_flush_stands()
     ensures ok { FlushStands }
     ensures fault { FlushFaultStands }
 {}
+
+/// A flush that was given out takes along what must go when it is committed, and its files are its tablets.
+pub fn a_given_flush_is_its_tablets()
+    ensures takes { GivenTakesAlong }
+    ensures same { GivenIsSame }
+{
+    rows_have_one_spelling();
+}

@@ -78,7 +78,7 @@ order (first ∷ notes) low high rising in_low in_high up = ⊎_elim
     (Contains-cons_cases first notes low in_low)
 
 -- a row's note
-placed_note : (entries : List Entry) (p : Placed) → Contains (placed_in entries) p → Contains (notes_in entries) (record { tablet = p.tablet; seq = p.numbered.seq })
+pub placed_note : (entries : List Entry) (p : Placed) → Contains (placed_in entries) p → Contains (notes_in entries) (record { tablet = p.tablet; seq = p.numbered.seq })
 placed_note [] p among = absurd (omega (arith, among.1))
 placed_note (row_entry first tablet ∷ entries) p among = ⊎_elim
     (λ same. subst (λ (q : Placed). Contains (notes_in (row_entry first tablet ∷ entries)) (record { tablet = q.tablet; seq = q.numbered.seq })) same (first_in (record { tablet = tablet; seq = first.seq }) (notes_in entries)))

@@ -36,7 +36,7 @@ follows_later o before [] entries follows = subst (λ (es : List Entry). EachFol
 follows_later o before (e ∷ first) entries follows = subst (λ (es : List Entry). EachFollows o es entries) (append_assoc before (e ∷ []) first) (follows_later o (before ++ e ∷ []) first entries follows.1)
 
 -- a row below a front's next number was there
-was_there : (h : History) (k : ℕ) (p : Placed) → EachFollows h.opening [] h.entries → p.numbered.seq < next (front k h) → Contains (placed_in h.entries) p → Contains (placed_in (front k h).entries) p
+pub was_there : (h : History) (k : ℕ) (p : Placed) → EachFollows h.opening [] h.entries → p.numbered.seq < next (front k h) → Contains (placed_in h.entries) p → Contains (placed_in (front k h).entries) p
 was_there h k p all_follow below among =
     let first = take k h.entries in
     let later = drop k h.entries in
@@ -49,12 +49,12 @@ was_there h k p all_follow below among =
     absurd (omega (arith, above, below)))
     (Contains-append_cases (placed_in first) (placed_in later) p (subst (λ (ps : List Placed). Contains ps p) split among))
 
-kept_front : (h : History) (k : ℕ) → kept (front k h) ≤ kept h
+pub kept_front : (h : History) (k : ℕ) → kept (front k h) ≤ kept h
 kept_front h k =
     let all : kept h ≡ kept_in (kept (front k h)) (drop k h.entries) = ap (kept_in h.opening.kept) (sym (take-append-drop k h.entries)) ∙ kept_in-append h.opening.kept (take k h.entries) (drop k h.entries) in
     omega (arith, all, kept_in_up (kept (front k h)) (drop k h.entries))
 
-next_front : (h : History) (k : ℕ) → next (front k h) ≤ next h
+pub next_front : (h : History) (k : ℕ) → next (front k h) ≤ next h
 next_front h k = omega (arith, ap (λ (es : List Entry). length (rows_in es)) (take-append-drop k h.entries), ap length (rows_in-append (take k h.entries) (drop k h.entries)), length-append (rows_in (take k h.entries)) (rows_in (drop k h.entries)))
 
 pub job_takes_along : JobTakesAlong

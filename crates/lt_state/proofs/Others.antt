@@ -29,7 +29,7 @@ published_facts told h recs new stone memory whole holds bounds lows unsettled k
 same_placed : (h : History) (more : List Entry) → placed_in more ≡ [] → placed_in (extended h more).entries ≡ placed_in h.entries
 same_placed h more none = placed_in-append h.entries more ∙ ap (λ (ps : List Placed). placed_in h.entries ++ ps) none ∙ append-nil (placed_in h.entries)
 
-grown_schemas : (h : History) (more : List Entry) → Extends (schemas h) (schemas (extended h more))
+pub grown_schemas : (h : History) (more : List Entry) → Extends (schemas h) (schemas (extended h more))
 grown_schemas h more = record { first = refl; since = changes_in more; changes = ap (λ (v : SchemaVersions). v.changes) (schemas-extended h more) }
 
 pub others_leave_memory : OthersLeaveMemory

@@ -146,7 +146,7 @@ less_of Less e = refl
 less_of Equal e = cc
 less_of Greater e = cc
 
-less_trans : (a b c : List ℕ) → is_less a b ≡ true → is_less b c ≡ true → is_less a c ≡ true
+pub less_trans : (a b c : List ℕ) → is_less a b ≡ true → is_less b c ≡ true → is_less a c ≡ true
 less_trans a b c x y = ap is_lt (nat_list_cmp_total.trans a b c (less_of _ x) (less_of _ y))
 
 pub above_all : (last : List ℕ) (recs : List Record) (r : Record) → Rises last recs → Contains recs r → is_less last r.key ≡ true

@@ -34,7 +34,7 @@ read_in false read e = cc
 le_true : (a b : ℕ) → a ≤ b → nat_le a b ≡ true
 le_true a b h = grind arith
 
-row_in_is : (versions : SchemaVersions) (rec : Record) → rec.ver ≤ newest_version versions → row_in versions rec ≡ row_at (schema_at versions rec.ver) rec.key rec.body
+pub row_in_is : (versions : SchemaVersions) (rec : Record) → rec.ver ≤ newest_version versions → row_in versions rec ≡ row_at (schema_at versions rec.ver) rec.key rec.body
 unfolding row_in
 row_in_is versions rec within = read_in (nat_le rec.ver (newest_version versions)) (row_at (schema_at versions rec.ver) rec.key rec.body) (le_true rec.ver (newest_version versions) within)
 
