@@ -1,7 +1,7 @@
 //! The one line that a refusal writes.
 ghost use Rattle.std.specs.Prelude.{◌≡◌, ◌⊎◌, ◌≤◌, ◌++◌, IfOk, OnOk, decimal, codes};
 ghost use Rattle.lt_reply.specs.Texts.{line_of};
-ghost use Rattle.lt_serve.specs.Status.{HasFixedLine, refusal_text, schema_refusal};
+ghost use Rattle.lt_serve.specs.Status.{HasFixedLine, IsToldAs, refusal_text, schema_refusal};
 ghost use Rattle.lt_serve.specs.Output.{WritesAlone, WritesRefusal, IsRefusal};
 
 use crate::Status;
@@ -111,8 +111,7 @@ fn refuse_by<K: Sink>(sink: &mut K, status: Status, line: Result<Vec<u8>, NoMemo
 /// Writes the line of a refusal. A line without a number takes no memory; where there is none for another, that is told.
 pub fn refuse<K: Sink>(alloc: Global, sink: &mut K, status: Status) -> Status
     requires { IsRefusal status }
-    ensures status { (result ≡ status) ⊎ (result ≡ Status.NoMemory) }
-    ensures fixed { HasFixedLine status → result ≡ status }
+    ensures told { IsToldAs status result }
     ensures line { WritesAlone (refusal_text result) (K.held sink.old) (K.held sink.new) (K.faults sink.old) (K.faults sink.new) }
     ensures later { K.faults sink.old ≤ K.faults sink.new }
 {
