@@ -63,7 +63,7 @@ reading_status reading.Fault = SourceFault
 reading_status reading.TooLong = TooLong
 reading_status reading.NoMemory = NoMemory
 
--- why a text says no schema
+-- why a text says no schema; want of memory is told as itself
 abbrev pub schema_refusal : SchemaError → List ℕ
 schema_refusal schema.NotJson = codes "not json"
 schema_refusal (schema.Shape field) = codes "shape " ++ decimal field
@@ -71,7 +71,7 @@ schema_refusal schema.NoTime = codes "no time"
 schema_refusal (schema.TooMany count) = codes "too many " ++ decimal count
 schema_refusal (schema.Twice column) = codes "twice " ++ decimal column
 schema_refusal (schema.BadDefault column) = codes "default " ++ decimal column
-schema_refusal schema.NoMemory = codes "no memory"
+schema_refusal schema.NoMemory = []
 
 -- a run that is done, or whose sink failed, has no line of its own
 abbrev pub refusal_text : Status → List ℕ
