@@ -1,6 +1,5 @@
 -- How a session ends.
-use Rattle.std.proofs.Common.{◌≡◌, ℕ, IsTrue, List, [], ◌∷◌, ◌++◌, length, refl, sym, ◌∙◌, ap, subst, Option, Some, None}
-use Rattle.std.specs.Prelude.{All}
+use Rattle.std.proofs.Common.{◌≡◌, ℕ, Bool, IsTrue, List, [], ◌∷◌, ◌++◌, length, refl, sym, ◌∙◌, ap, subst, Option, Some, None}
 use Rattle.std.specs.List.{flat_map}
 use Rattle.std.proofs.lemmas.List.{append-nil}
 use Rattle.lt_lang.specs.Lines.{cut_lines}
@@ -15,9 +14,8 @@ use Rattle.lt_model.specs.Readings.{next, kept}
 use Rattle.lt_model.specs.Session.{Client, Block, Mark, LinesAnswered, no_workers, IsSession, clients_of}
 use Rattle.lt_model.specs.Growing.{SoFar, seen_after_all}
 use Rattle.lt_model.proofs.Growth.{IsSession-nobody, IsSession-one}
-use Rattle.lt_plain.specs.Table.{IsUndamaged}
 use Rattle.lt_serve.specs.Session.{lines_of, AreSpelled, client_of, MayAnswer, AllMayAnswer, IsBuilt, blocks_text}
-use Rattle.lt_serve.specs.Growing.{Meter, owned, asks_built, block_head, faults_in, replies_of, AtMostRose, UsesNumbers, HasAnswered, ReadSoFar, IsAnswered}
+use Rattle.lt_serve.specs.Growing.{Meter, owned, asks_built, block_head, replies_of, HasAnswered, ReadSoFar, IsAnswered}
 use Rattle.lt_serve.proofs.Telling.{owned_by_none, clients_of-none, clients_of-ours}
 use Rattle.lt_serve.proofs.Looked.{all_cut}
 
@@ -80,31 +78,25 @@ all_spelled : (cut : List (List ℕ)) → AreSpelled cut
 all_spelled [] = tt
 all_spelled (bytes ∷ others) = (line_spelled bytes (line_at bytes) refl, all_spelled others)
 
-pub ReadSoFar-begin : (clock : ℕ → Type 0) (opening held : Opening) (client : Option (List ℕ)) (input text : List ℕ) (before now : Meter) → HasAnswered clock opening held client text [] before now
-    → ReadSoFar clock opening held client input input text before now
-ReadSoFar-begin clock opening held client input text before now answered = record { lines = []; cut = refl; answered = answered }
-
-pub IsAnswered-ended : (clock : ℕ → Type 0) (opening held : Opening) (client : Option (List ℕ)) (input rest text whole : List ℕ) (before now : Meter) → ReadSoFar clock opening held client input rest text before now → rest ≡ []
-    → IsBuilt input → client ≡ client_of (lines_of input) → whole ≡ text ++ end_line held.next held.kept → IsAnswered clock opening held input whole before now
-IsAnswered-ended clock opening held client input rest text whole before now so_far ended built whose written =
+pub IsAnswered-ended : (honest : Bool) (clock : ℕ → Type 0) (opening held : Opening) (before now : Meter) (client : Option (List ℕ)) (input rest text whole : List ℕ) → ReadSoFar honest clock opening held before now client input rest text → rest ≡ []
+    → IsBuilt input → client ≡ client_of (lines_of input) → whole ≡ text ++ end_line held.next held.kept → IsAnswered honest clock opening held before now input whole
+IsAnswered-ended honest clock opening held before now client input rest text whole so_far ended built whose written =
     let answered = so_far.answered in
     let all : so_far.lines ≡ lines_of input = sym (all_cut input rest so_far.lines so_far.cut ended) in
-    let session = session_of clock client (lines_of input) answered.replies answered.history whose (subst (λ (own : Option (List ℕ)). AllMayAnswer own (lines_of input)) (sym whose) built)
-    (subst (λ (lines : List Line). SoFar clock 0 (owned lines) answered.replies answered.history) all answered.so_far) in
+    let session = session_of clock client (lines_of input) so_far.replies so_far.history whose (subst (λ (own : Option (List ℕ)). AllMayAnswer own (lines_of input)) (sym whose) built)
+    (subst (λ (lines : List Line). SoFar clock 0 (owned lines) so_far.replies so_far.history) all answered.so_far) in
     record {
       whole = record {
         spelled = all_spelled (cut_lines input);
         blocks = session.blocks;
-        history = answered.history;
+        history = so_far.history;
         opened = answered.opened;
         session = session.session;
+        unflushed = answered.unflushed;
         written = written
             ∙ ap (λ (o : Opening). text ++ end_line o.next o.kept) (sym answered.stands)
-            ∙ ap (λ (blocks : List ℕ). blocks ++ end_line (next answered.history) (kept answered.history)) (answered.written ∙ session.written);
+            ∙ ap (λ (blocks : List ℕ). blocks ++ end_line (next so_far.history) (kept so_far.history)) (so_far.written ∙ session.written);
       };
-      stands = answered.stands;
-      faults = subst (λ (replies : List Reply). AtMostRose before.faults (faults_in replies) now.faults) (sym session.all) answered.faults;
-      undamaged = subst (All IsUndamaged) (sym session.all) answered.undamaged;
-      numbers = subst (λ (replies : List Reply). UsesNumbers before.next_file (owned (lines_of input)) replies now.next_file) (sym session.all)
-          (subst (λ (lines : List Line). UsesNumbers before.next_file (owned lines) answered.replies now.next_file) all answered.numbers);
+      answered = subst (λ (replies : List Reply). HasAnswered honest clock opening held before now (owned (lines_of input)) replies so_far.history) (sym session.all)
+          (subst (λ (lines : List Line). HasAnswered honest clock opening held before now (owned lines) so_far.replies so_far.history) all answered);
     }

@@ -3,9 +3,12 @@ pub mod Making
 pub mod Telling
 pub mod Looked
 pub mod Renewing
+pub mod LineByLine
 pub mod Replied
 pub mod Faults
+pub mod Adding
+pub mod OneLine
 pub mod Answering
 pub mod Ending
 pub mod Opening
-pub mod LoadCauses
+pub mod Causes

@@ -15,7 +15,7 @@ use Rattle.lt_commit.specs.declared.errors.CommitError.TheVariants as commit
 use Rattle.lt_model.specs.History.{Opening}
 use Rattle.lt_plain.specs.Table.{Answers}
 use Rattle.lt_plain.proofs.Steps.{nothing_added, answers_no_memory_insert, answers_no_memory_scan}
-use Rattle.lt_serve.specs.Kept.{commit_reply}
+use Rattle.lt_serve.specs.Kept.{commit_reply, altered_reply}
 use Rattle.lt_serve.specs.Growing.{number_weight}
 
 -- where a call wanted memory, it changed nothing, and the reply says so
@@ -26,7 +26,7 @@ answers_or_no_memory held new now command (Ok r) reply answers unchanged is none
 answers_or_no_memory held new now command (Err e) reply answers unchanged is none free =
     subst (λ (o : Opening). Answers held o now command reply) (sym unchanged) (subst (Answers held held now command) (sym none) free)
 
-on_refusal : {X E : Type 0} (answered : Result X E) (P : Type 0) → P → OnErr answered P
+pub on_refusal : {X E : Type 0} (answered : Result X E) (P : Type 0) → P → OnErr answered P
 on_refusal (Ok x) P holds = tt
 on_refusal (Err e) P holds = holds
 
@@ -41,17 +41,15 @@ insert_answered held new now row answered reply answers unchanged is none =
     answers_or_no_memory held new now (Insert row) answered reply answers unchanged is none (answers_no_memory_insert held row now)
 
 -- a change that was not published adds nothing
-unpublished : (held : Opening) (change : Change) (now : ℕ) (refused : CommitError) → Answers held held now (Alter change) (commit_reply refused)
+pub unpublished : (held : Opening) (change : Change) (now : ℕ) (refused : CommitError) → Answers held held now (Alter change) (commit_reply refused)
 unpublished held change now commit.Spent h legal stands = nothing_added h held now (Alter change) (commit_reply commit.Spent) legal stands (refl, refl)
 unpublished held change now commit.Fault h legal stands = nothing_added h held now (Alter change) (commit_reply commit.Fault) legal stands (refl, refl)
 unpublished held change now commit.NoMemory h legal stands = nothing_added h held now (Alter change) (commit_reply commit.NoMemory) legal stands (refl, refl)
 
-pub change_answered : (held new : Opening) (now : ℕ) (change : Change) (altered : Result Reply CommitError) (reply : Reply)
-    → IfOk altered (λ r. (moment : ℕ) → Answers held new moment (Alter change) r) → OnErr altered (new ≡ held) → IfOk altered (λ r. reply ≡ r) → IfErr altered (λ e. reply ≡ commit_reply e)
-    → Answers held new now (Alter change) reply
-change_answered held new now change (Ok r) reply answers unchanged is refused = subst (Answers held new now (Alter change)) (sym is) (answers now)
-change_answered held new now change (Err e) reply answers unchanged is refused =
-    subst (λ (o : Opening). Answers held o now (Alter change) reply) (sym unchanged) (subst (Answers held held now (Alter change)) (sym refused) (unpublished held change now e))
+pub unpublished_so : (held new : Opening) (change : Change) (now : ℕ) (altered : Result Reply CommitError) (refused : CommitError) → altered ≡ Err refused → new ≡ held → Answers held new now (Alter change) (altered_reply altered)
+unpublished_so held new change now altered refused is same =
+    subst (λ (o : Opening). Answers held o now (Alter change) (altered_reply altered)) (sym same)
+    (subst (λ (r : Result Reply CommitError). Answers held held now (Alter change) (altered_reply r)) (sym is) (unpublished held change now refused))
 
 -- ---- file numbers
 
@@ -61,8 +59,3 @@ used_one (Ok done) old new never used = tt
 used_one (Err commit.Spent) old new never used = absurd (never refl)
 used_one (Err commit.Fault) old new never used = used
 used_one (Err commit.NoMemory) old new never used = used
-
-pub change_numbers : (altered : Result Reply CommitError) (reply : Reply) (old new : ℕ) → IfOk altered (λ r. reply ≡ r) → IfErr altered (λ e. reply ≡ commit_reply e)
-    → IfOk altered (λ r. new ≤ old + number_weight r) → IfErr altered (λ e. new ≤ old + number_weight (commit_reply e)) → new ≤ old + number_weight reply
-change_numbers (Ok r) reply old new is refused used numbers = subst (λ (reply : Reply). new ≤ old + number_weight reply) (sym is) used
-change_numbers (Err e) reply old new is refused used numbers = subst (λ (reply : Reply). new ≤ old + number_weight reply) (sym refused) numbers

@@ -48,3 +48,12 @@ one_creation (command ∷ dir ∷ text ∷ []) a b None (Some y) first second = 
 one_creation (command ∷ dir ∷ text ∷ ttl ∷ []) a b None y first second = absurd first
 one_creation (command ∷ dir ∷ text ∷ ttl ∷ []) a b (Some x) None first second = absurd second
 one_creation (command ∷ dir ∷ text ∷ ttl ∷ more ∷ others) a b x y first second = absurd first
+
+-- no words have both forms
+pub either_form : (words : List (List ℕ)) (text : List ℕ) (ttl : Option ℕ) → IsRun words → IsCreation words text ttl → ⊥
+either_form (command ∷ dir ∷ flag ∷ []) text None session asks = absurd (let both : codes "run" ≡ codes "create" = sym session.0 ∙ asks.0 in cc)
+either_form (command ∷ dir ∷ flag ∷ []) text (Some ttl) session asks = asks
+either_form [] text ttl session asks = session
+either_form (command ∷ []) text ttl session asks = session
+either_form (command ∷ dir ∷ []) text ttl session asks = session
+either_form (command ∷ dir ∷ flag ∷ more ∷ others) text ttl session asks = session

@@ -1,6 +1,9 @@
 -- A session over the bytes of its input, after some of its lines.
-use Rattle.std.specs.Prelude.{◌≡◌, ◌+◌, ◌-◌, ◌^◌, ◌≤◌, min, ℕ, Bool, true, false, IsTrue, List, [], ◌∷◌, ◌++◌, sum_by, All, Option, Some, None}
-use Rattle.std.specs.List.{flat_map}
+use Rattle.std.specs.Prelude.{◌≡◌, ◌⊎◌, ◌+◌, ◌-◌, ◌^◌, ◌≤◌, min, ℕ, Bool, true, false, IsTrue, List, [], ◌∷◌, ◌++◌, sum_by, All, Option, Some, None, IfSome, IfNone, Contains}
+use Rattle.std.specs.List.{flat_map, AllByRecursion}
+use Rattle.lt_io.specs.Device.{Counts}
+use Rattle.lt_io.specs.Directory.{State, Directory, moment}
+use Rattle.lt_io.specs.Steps.{Steps}
 use Rattle.lt_reply.specs.Texts.{reply_text_of, client_line}
 use Rattle.lt_command.specs.declared.command.Command.{Command}
 use Rattle.lt_command.specs.declared.command.Command.TheVariants.{Alter}
@@ -9,11 +12,12 @@ use Rattle.lt_command.specs.declared.command.Line.TheVariants.{Skip, Bad, Comman
 use Rattle.lt_command.specs.declared.reply.Reply.{Reply}
 use Rattle.lt_command.specs.declared.reply.Reply.TheVariants.{BadLine, Refused, Fault, Spent}
 use Rattle.lt_model.specs.History.{Opening, History}
-use Rattle.lt_model.specs.Legal.{IsLegal}
 use Rattle.lt_model.specs.Session.{Block, IsMoment}
 use Rattle.lt_model.specs.Growing.{SoFar}
 use Rattle.lt_plain.specs.Table.{StandsFor, Answers, IsUndamaged}
-use Rattle.lt_serve.specs.Session.{lines_of, is_built, IsSessionText}
+use Rattle.lt_serve.specs.Session.{lines_of, is_built, IsRowOrChange, IsSessionText}
+use Rattle.lt_serve.specs.Kept.{Head, head_of, Told, told_of, told_by_line, TellsOf, AllTell, StaysKept, LendsInTurn}
+use Rattle.lt_serve.specs.ByLine.{LineEnd, begun_at, TellsByLine, last_end}
 
 -- the lines that belong to anybody
 abbrev pub owned : List Line → List Line
@@ -92,50 +96,90 @@ Replies clock old new (Bad client at) (Some reply) = (reply ≡ BadLine at) × (
 Replies clock old new (CommandLine client moment command) (Some reply) = (now : ℕ) × IsMoment clock moment now × Answers old new now command reply
 Replies clock old new line reply = ⊥
 
--- the count of the device's faults, and the first free file number
+-- what a session reads off its device: the count of faults, the first free file number, and the directory
 pub record Meter : Type 0 where
   pub faults : ℕ
   pub next_file : ℕ
+  pub directory : Directory
 
--- These lines are answered: the table holds what their history says, which began with the opening; the text so far is their
--- client's block; there are at most as many faults among the replies as the count rose since, none tells of damage, and
--- changes used the file numbers from the first on up to the free ones.
-pub record HasAnswered (clock : ℕ → Type 0) (opening held : Opening) (client : Option (List ℕ)) (text : List ℕ) (lines : List Line) (before now : Meter) : Type 0 where
-  pub replies : List Reply
-  pub history : History
+abbrev pub meter : ℕ → ℕ → Directory → Meter
+meter faults next_file directory = record { faults = faults; next_file = next_file; directory = directory }
+
+-- the reply, if there is one, among the replies, in the text, and in what is told of the schema
+abbrev pub replies_in : Option Reply → List Reply
+replies_in None = []
+replies_in (Some reply) = reply ∷ []
+
+abbrev pub shown : Option Reply → List ℕ
+shown None = []
+shown (Some reply) = reply_text_of reply
+
+abbrev pub told_by : Line → Option Reply → Told → Told
+told_by line None told = told
+told_by line (Some reply) told = told_by_line line reply told
+
+-- A line is answered so, if it belongs to anybody: what the reply makes of the table, of the count of faults, of the file
+-- numbers and of the possible descriptors.
+pub record AnswersLine (honest : Bool) (clock : ℕ → Type 0) (old new : Opening) (before now : Meter) (line : Line) (reply : Option Reply) : Type 0 where
+  pub replies : Replies clock old new line reply
+  pub undamaged : IfSome reply IsUndamaged
+  pub faults : Counts before.faults now.faults (reply ≡ Some Fault)
+  pub spent : IfSome reply (IsSpentFrom before.next_file line)
+  pub used : IfSome reply (λ reply. now.next_file ≤ before.next_file + numbers_used line reply)
+  pub unused : IfNone reply (now ≡ before)
+  pub lends : LendsInTurn before.next_file before.directory now.next_file now.directory
+  pub kept : (told : Told) → told.versions ≡ old.schemas → StaysKept honest old new told (told_by line reply told) before.directory now.directory
+
+-- where the lines so far left off, and that all that is possible is told of by their replies
+pub record TellsSoFar (head : Head) (first : LineEnd) (held : Opening) (lines : List Line) (replies : List Reply) (now : Directory) : Type 0 where
+  pub ends : List LineEnd
+  pub by_line : TellsByLine head now first lines replies ends
+  pub moment_is : (last_end first ends).moment ≡ moment now
+  pub versions : (last_end first ends).told.versions ≡ held.schemas
+  pub all_tell : AllTell head (last_end first ends).told now.now
+
+-- a descriptor of the table, whatever is told of its schema
+abbrev pub TellsSome : Head → Option (List ℕ) → Type 0
+TellsSome head descriptor = (told : Told) × TellsOf head told descriptor
+
+-- the files stand, and each possible descriptor was possible before or is one of the table
+pub record Stays (head : Head) (before after : State) : Type 0 where
+  pub files : after.files ≡ before.files
+  pub old_or_new : (descriptor : Option (List ℕ)) → Contains after.may descriptor → Contains before.may descriptor ⊎ TellsSome head descriptor
+
+-- These lines, each of which belongs to somebody, are answered by these replies: the table holds what their history says, which began with the opening.
+pub record HasAnswered (honest : Bool) (clock : ℕ → Type 0) (opening held : Opening) (before now : Meter) (lines : List Line) (replies : List Reply) (history : History) : Type 0 where
   pub opened : history.opening ≡ opening
   pub stands : StandsFor held history
-  pub so_far : SoFar clock 0 (owned lines) replies history
-  pub written : text ≡ block_head client ++ flat_map reply_text_of replies
+  pub so_far : SoFar clock 0 lines replies history
+  pub unflushed : AllByRecursion IsRowOrChange history.entries
+  pub head : head_of held ≡ head_of opening
   pub faults : AtMostRose before.faults (faults_in replies) now.faults
   pub undamaged : All IsUndamaged replies
-  pub numbers : UsesNumbers before.next_file (owned lines) replies now.next_file
+  pub numbers : UsesNumbers before.next_file lines replies now.next_file
+  pub lends : LendsInTurn before.next_file before.directory now.next_file now.directory
+  pub any_moment : honest ≡ true → Steps (Stays (head_of opening)) before.directory now.directory
+  pub tells : honest ≡ true → AllTell (head_of opening) (told_of opening.schemas) before.directory.now → TellsSoFar (head_of opening) (begun_at (moment before.directory) opening.schemas) held lines replies now.directory
 
--- one line more is answered, behind all that were answered before
-abbrev pub Takes : (ℕ → Type 0) → Opening → Opening → List ℕ → List ℕ → Meter → Meter → Line → Type 0
-Takes clock old new text longer before now line =
-    (opening : Opening) (client : Option (List ℕ)) (lines : List Line) (began : Meter)
-    → HasAnswered clock opening old client text lines began before → HasAnswered clock opening new client longer (lines ++ line ∷ []) began now
+-- a front of the input's lines is answered
+pub record AnswersFront (honest : Bool) (clock : ℕ → Type 0) (opening held : Opening) (before now : Meter) (input : List ℕ) : Type 0 where
+  pub lines : List Line
+  pub others : List Line
+  pub front : lines_of input ≡ lines ++ others
+  pub replies : List Reply
+  pub history : History
+  pub answered : HasAnswered honest clock opening held before now (owned lines) replies history
 
--- the front of the input that was read is answered so far
-pub record ReadSoFar (clock : ℕ → Type 0) (opening held : Opening) (client : Option (List ℕ)) (input rest text : List ℕ) (before now : Meter) : Type 0 where
+-- the front of the input that was read is answered so far, and the text so far is the client's block
+pub record ReadSoFar (honest : Bool) (clock : ℕ → Type 0) (opening held : Opening) (before now : Meter) (client : Option (List ℕ)) (input rest text : List ℕ) : Type 0 where
   pub lines : List Line
   pub cut : lines_of input ≡ lines ++ lines_of rest
-  pub answered : HasAnswered clock opening held client text lines before now
-
--- the table holds what a legal history says that began with the opening
-pub record HasHistory (opening held : Opening) : Type 0 where
+  pub replies : List Reply
   pub history : History
-  pub opened : history.opening ≡ opening
-  pub legal : IsLegal history
-  pub stands : StandsFor held history
+  pub answered : HasAnswered honest clock opening held before now (owned lines) replies history
+  pub written : text ≡ block_head client ++ flat_map reply_text_of replies
 
--- All lines are answered by the text, and the table holds what their history says. There are at most as many faults among
--- the replies as the count rose, none tells of damage, and changes used the file numbers from the first on up to the free
--- ones.
-pub record IsAnswered (clock : ℕ → Type 0) (opening held : Opening) (input text : List ℕ) (before now : Meter) : Type 0 where
+-- all lines are answered by the text
+pub record IsAnswered (honest : Bool) (clock : ℕ → Type 0) (opening held : Opening) (before now : Meter) (input text : List ℕ) : Type 0 where
   pub whole : IsSessionText clock opening input text
-  pub stands : StandsFor held whole.history
-  pub faults : AtMostRose before.faults (faults_in (replies_of whole.blocks)) now.faults
-  pub undamaged : All IsUndamaged (replies_of whole.blocks)
-  pub numbers : UsesNumbers before.next_file (owned (lines_of input)) (replies_of whole.blocks) now.next_file
+  pub answered : HasAnswered honest clock opening held before now (owned (lines_of input)) (replies_of whole.blocks) whole.history

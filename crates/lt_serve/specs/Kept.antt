@@ -1,9 +1,13 @@
--- How a table stays kept in a directory while its schema changes.
-use Rattle.std.specs.Prelude.{◌≡◌, ◌⊎◌, ◌^◌, ◌&&◌, ℕ, Bool, true, nat_le, nat_lt, List, [], ◌++◌, Option, Some, None, Ok, Contains}
+-- What descriptors tell of a table whose rows are in memory alone, while its schema changes.
+use Rattle.std.specs.Prelude.{◌≡◌, ◌⊎◌, ◌≤◌, ◌+◌, ◌-◌, ◌^◌, ◌&&◌, ℕ, Bool, true, nat_le, nat_lt, List, [], ◌∷◌, ◌++◌, Option, Some, None, Ok, Err, Result, Contains}
 use Rattle.lt_io.specs.Directory.{State, Directory}
 use Rattle.lt_io.specs.Steps.{Steps}
 use Rattle.lt_schema.specs.declared.change.Change.{Change}
 use Rattle.lt_schema.specs.Versions.{SchemaVersions}
+use Rattle.lt_command.specs.declared.command.Command.{Command}
+use Rattle.lt_command.specs.declared.command.Command.TheVariants.{Alter}
+use Rattle.lt_command.specs.declared.command.Line.{Line}
+use Rattle.lt_command.specs.declared.command.Line.TheVariants.{Skip, Bad, Command as CommandLine}
 use Rattle.lt_command.specs.declared.reply.Reply.{Reply}
 use Rattle.lt_command.specs.declared.reply.Reply.TheVariants as reply
 use Rattle.lt_commit.specs.declared.errors.CommitError.{CommitError}
@@ -20,6 +24,11 @@ commit_reply commit.Spent = reply.Spent
 commit_reply commit.Fault = reply.Fault
 commit_reply commit.NoMemory = reply.NoMemory
 
+-- the reply to a change
+abbrev pub altered_reply : Result Reply CommitError → Reply
+altered_reply (Ok answer) = answer
+altered_reply (Err refused) = commit_reply refused
+
 -- a time to live that a descriptor can tell
 abbrev pub is_ttl : Option ℕ → Bool
 is_ttl None = true
@@ -34,40 +43,74 @@ pub record Head : Type 0 where
 abbrev pub head_of : Opening → Head
 head_of held = record { kept = held.kept; low = held.low; ttl = held.ttl }
 
--- the descriptor of a table with this head, without rows in files
-pub record TellsOf (head : Head) (descriptor : Option (List ℕ)) : Type 0 where
+-- what replies say of the schema: its versions, and the changes that were answered `fault` since the last that was made
+pub record Told : Type 0 where
+  pub versions : SchemaVersions
+  pub faulted : List Change
+
+-- these versions, and no such change
+abbrev pub told_of : SchemaVersions → Told
+told_of versions = record { versions = versions; faulted = [] }
+
+-- these versions and one change more
+abbrev pub changed_by : SchemaVersions → Change → SchemaVersions
+changed_by versions change = record { first = versions.first; changes = versions.changes ++ change ∷ [] }
+
+-- what the reply to a change makes of it
+abbrev pub told_by_change : Change → Reply → Told → Told
+told_by_change change (reply.Version version) told = told_of (changed_by told.versions change)
+told_by_change change reply.Fault told = record { versions = told.versions; faulted = told.faulted ++ change ∷ [] }
+told_by_change change _ told = told
+
+abbrev pub told_by_command : Command → Reply → Told → Told
+told_by_command (Alter change) answer told = told_by_change change answer told
+told_by_command _ answer told = told
+
+-- what the reply to a line makes of it
+abbrev pub told_by_line : Line → Reply → Told → Told
+told_by_line Skip answer told = told
+told_by_line (Bad client at) answer told = told
+told_by_line (CommandLine client moment command) answer told = told_by_command command answer told
+
+-- the versions that were told, or these with one change more, which was answered `fault`
+abbrev pub HasVersions : Told → SchemaVersions → Type 0
+HasVersions told versions = (versions ≡ told.versions) ⊎ ((change : Change) × Contains told.faulted change × (versions ≡ changed_by told.versions change))
+
+-- A stone keeps what the table keeps, and no more while nothing is flushed; it has the table's low bound and time to live.
+pub record HasHead (head : Head) (stone : StoneShape) : Type 0 where
+  pub kept : head.kept ≤ stone.kept
+  pub unflushed : stone.kept ≤ head.kept
+  pub low : stone.low ≡ head.low
+  pub ttl : stone.ttl ≡ head.ttl
+
+-- The descriptor of a table with this head: it spells a lawful stone without tablets, whose schema is as was told.
+pub record TellsOf (head : Head) (told : Told) (descriptor : Option (List ℕ)) : Type 0 where
   pub stone : StoneShape
   pub lawful : IsStone stone
   pub read : stone_at (spelling stone) ≡ Ok stone
   pub spelled : descriptor ≡ Some (spelling stone)
   pub bare : stone.tablets ≡ []
-  pub kept : stone.kept ≡ head.kept
-  pub low : stone.low ≡ head.low
-  pub ttl : stone.ttl ≡ head.ttl
+  pub head_is : HasHead head stone
+  pub versions : HasVersions told stone.schemas
 
--- these versions, and perhaps more
-pub record Extends (versions more : SchemaVersions) : Type 0 where
-  pub first : more.first ≡ versions.first
-  pub since : List Change
-  pub changes : more.changes ≡ versions.changes ++ since
+-- each possible descriptor is such
+abbrev pub AllTell : Head → Told → State → Type 0
+AllTell head told state = (descriptor : Option (List ℕ)) → Contains state.may descriptor → TellsOf head told descriptor
 
--- the descriptor of a table with these versions of its schema, perhaps with more
-pub record TellsAll (head : Head) (versions : SchemaVersions) (descriptor : Option (List ℕ)) : Type 0 where
-  pub tells : TellsOf head descriptor
-  pub more : Extends versions tells.stone.schemas
-
--- each possible descriptor is one of the table
-abbrev pub AllTell : Opening → State → Type 0
-AllTell held state = (descriptor : Option (List ℕ)) → Contains state.may descriptor → TellsAll (head_of held) held.schemas descriptor
-
--- while the schema changes: the files stand, and each possible descriptor was possible before or is one of the table
-pub record Renews (head : Head) (before after : State) : Type 0 where
+-- while the schema changes: the files stand, and each possible descriptor was possible before or is such
+pub record Renews (head : Head) (told : Told) (before after : State) : Type 0 where
   pub files : after.files ≡ before.files
-  pub old_or_new : (descriptor : Option (List ℕ)) → Contains after.may descriptor → Contains before.may descriptor ⊎ TellsOf head descriptor
+  pub old_or_new : (descriptor : Option (List ℕ)) → Contains after.may descriptor → Contains before.may descriptor ⊎ TellsOf head told descriptor
 
--- What commands leave of a table and of the directory that it is kept in: a descriptor that a stop may leave was possible
--- before or is one of the table, at each moment, and no change that the table took is lost.
-pub record StaysKept (honest : Bool) (old new : Opening) (before after : Directory) : Type 0 where
+-- What a command leaves of a table and of the directory that it is kept in: a descriptor that a stop may leave was possible
+-- before or is as is told later, at each moment; and where all were as was told, all are as is told later.
+pub record StaysKept (honest : Bool) (old new : Opening) (told later : Told) (before after : Directory) : Type 0 where
   pub head : head_of new ≡ head_of old
-  pub any_moment : honest ≡ true → Steps (Renews (head_of old)) before after
-  pub all_tell : honest ≡ true → AllTell old before.now → AllTell new after.now
+  pub versions : later.versions ≡ new.schemas
+  pub any_moment : honest ≡ true → Steps (Renews (head_of old) later) before after
+  pub all_tell : honest ≡ true → AllTell (head_of old) told before.now → AllTell (head_of old) later after.now
+
+-- file numbers are lent in turn: the first free one rises with each lend
+pub record LendsInTurn (free : ℕ) (old : Directory) (next : ℕ) (new : Directory) : Type 0 where
+  pub lends : old.lends ≤ new.lends
+  pub free_is : next ≡ free + (new.lends - old.lends)

@@ -5,8 +5,10 @@ pub mod Looking
 pub mod Loaded
 pub mod Loading
 pub mod Kept
+pub mod ByLine
 pub mod Growing
 pub mod Stops
 pub mod Output
-pub mod Created
+pub mod Made
+pub mod Ended
 pub mod Untouched

@@ -9,7 +9,7 @@ use Rattle.lt_command.specs.declared.command.Command.{Command}
 use Rattle.lt_command.specs.declared.command.Command.TheVariants.{Insert, Scan, Latest, Flush, Upkeep, Alter, Tablets}
 use Rattle.lt_command.specs.declared.command.Line.{Line}
 use Rattle.lt_command.specs.declared.command.Line.TheVariants.{Skip, Bad, Command as CommandLine}
-use Rattle.lt_model.specs.History.{Opening, History}
+use Rattle.lt_model.specs.History.{Opening, Entry, row_entry, bound_entry, schema_entry, kept_entry, History}
 use Rattle.lt_model.specs.Readings.{next, kept}
 use Rattle.lt_model.specs.Session.{Block, no_workers, IsSession, name_of, clients_of}
 
@@ -65,13 +65,21 @@ pub record HasOtherLine (input : List ℕ) (number : ℕ) : Type 0 where
 abbrev pub blocks_text : List Block → List ℕ
 blocks_text blocks = flat_map (λ (block : Block). block_text block.name block.replies) blocks
 
+-- nobody flushes or raises the bound yet: an entry is a row or a change of the schema
+abbrev pub IsRowOrChange : Entry → Type 0
+IsRowOrChange (row_entry numbered tablet) = ⊤
+IsRowOrChange (schema_entry change) = ⊤
+IsRowOrChange (bound_entry bound) = ⊥
+IsRowOrChange (kept_entry number) = ⊥
+
 -- The text of a session over the input, of a table that was opened so: its lines are spelled as the grammar says, and there
 -- is one history, which began with that opening, and at whose fronts each line of each client is answered; the text is the
--- clients' blocks, and the next and the kept number at its end.
+-- clients' blocks, and the next and the kept number at its end. No line flushes yet, so nobody adds a kept number.
 pub record IsSessionText (clock : ℕ → Type 0) (opening : Opening) (input text : List ℕ) : Type 0 where
   pub spelled : AreSpelled (cut_lines input)
   pub blocks : List Block
   pub history : History
   pub opened : history.opening ≡ opening
   pub session : IsSession clock no_workers 0 (clients_of (lines_of input)) blocks history
+  pub unflushed : AllByRecursion IsRowOrChange history.entries
   pub written : text ≡ blocks_text blocks ++ end_line (next history) (kept history)

@@ -1,5 +1,5 @@
 -- The numbers of the statuses, and the line that each refusal writes.
-use Rattle.std.specs.Prelude.{⊤, ℕ, List, [], ◌++◌, codes, decimal}
+use Rattle.std.specs.Prelude.{◌≡◌, ◌⊎◌, ⊤, ℕ, List, [], ◌++◌, codes, decimal}
 use Rattle.lt_reply.specs.Texts.{line_of}
 use Rattle.lt_json.specs.declared.json.SchemaError.{SchemaError}
 use Rattle.lt_json.specs.declared.json.SchemaError.TheVariants as schema
@@ -7,6 +7,12 @@ use Rattle.lt_commit.specs.declared.errors.LoadError.{LoadError}
 use Rattle.lt_commit.specs.declared.errors.LoadError.TheVariants as load
 use Rattle.lt_commit.specs.declared.errors.CreateError.{CreateError}
 use Rattle.lt_commit.specs.declared.errors.CreateError.TheVariants as create
+use Rattle.lt_io.specs.declared.reading.ReadAllError.{ReadAllError}
+use Rattle.lt_io.specs.declared.reading.ReadAllError.TheVariants as reading
+use Rattle.lt_serve.specs.declared.refusals.MakeError.{MakeError}
+use Rattle.lt_serve.specs.declared.refusals.MakeError.TheVariants as making
+use Rattle.lt_serve.specs.declared.refusals.SessionError.{SessionError}
+use Rattle.lt_serve.specs.declared.refusals.SessionError.TheVariants as session
 use Rattle.lt_serve.specs.declared.status.Status.{Status}
 use Rattle.lt_serve.specs.declared.status.Status.TheVariants.{Done, Usage, SourceFault, SinkFault, TooLong, Exists, NoTable, Refused, DeviceFault, NoMemory, BadSchema, Spent, NotYet}
 
@@ -39,7 +45,25 @@ create_refusal create.Spent = Spent
 create_refusal create.Fault = DeviceFault
 create_refusal create.NoMemory = NoMemory
 
--- why a text says no schema
+-- the status of a making that came to nothing
+abbrev pub making_status : MakeError → Status
+making_status (making.Schema schema.NoMemory) = NoMemory
+making_status (making.Schema why) = BadSchema why
+making_status (making.Create why) = create_refusal why
+
+-- the status of a session that was not answered to its end
+abbrev pub session_status : SessionError → Status
+session_status (session.Load why) = load_refusal why
+session_status (session.NotYet line) = NotYet line
+session_status session.NoMemory = NoMemory
+
+-- the status where the input was not read
+abbrev pub reading_status : ReadAllError → Status
+reading_status reading.Fault = SourceFault
+reading_status reading.TooLong = TooLong
+reading_status reading.NoMemory = NoMemory
+
+-- why a text says no schema; want of memory is told as itself
 abbrev pub schema_refusal : SchemaError → List ℕ
 schema_refusal schema.NotJson = codes "not json"
 schema_refusal (schema.Shape field) = codes "shape " ++ decimal field
@@ -47,7 +71,7 @@ schema_refusal schema.NoTime = codes "no time"
 schema_refusal (schema.TooMany count) = codes "too many " ++ decimal count
 schema_refusal (schema.Twice column) = codes "twice " ++ decimal column
 schema_refusal (schema.BadDefault column) = codes "default " ++ decimal column
-schema_refusal schema.NoMemory = codes "no memory"
+schema_refusal schema.NoMemory = []
 
 -- a run that is done, or whose sink failed, has no line of its own
 abbrev pub refusal_text : Status → List ℕ
@@ -80,3 +104,7 @@ HasFixedLine NoMemory = ⊤
 HasFixedLine (BadSchema why) = ⊥
 HasFixedLine Spent = ⊤
 HasFixedLine (NotYet line) = ⊥
+
+-- a refusal is told by its status, or by that of want of memory where its line has a number
+abbrev pub IsToldAs : Status → Status → Type 0
+IsToldAs refused status = (status ≡ refused) ⊎ ((status ≡ NoMemory) × (HasFixedLine refused → ⊥))

@@ -4,6 +4,7 @@
 mod creating;
 mod looking;
 mod output;
+mod refusals;
 mod refusing;
 mod serving;
 mod session;

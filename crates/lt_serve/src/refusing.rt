@@ -1,8 +1,8 @@
 //! The one line that a refusal writes.
 ghost use Rattle.std.specs.Prelude.{◌≡◌, ◌⊎◌, ◌≤◌, ◌++◌, IfOk, OnOk, decimal, codes};
 ghost use Rattle.lt_reply.specs.Texts.{line_of};
-ghost use Rattle.lt_serve.specs.Status.{HasFixedLine, refusal_text, schema_refusal};
-ghost use Rattle.lt_serve.specs.Output.{WritesAlone, WritesRefusal, IsRefusal};
+ghost use Rattle.lt_serve.specs.Status.{HasFixedLine, IsToldAs, refusal_text, schema_refusal};
+ghost use Rattle.lt_serve.specs.Output.{IsSaid, IsRefusal, WritesAlone};
 
 use crate::Status;
 use itoa::Buffer;
@@ -15,7 +15,8 @@ const USAGE: &str =
     "usage: create DIR SCHEMA [TTL] | run DIR [--leave] | make SEED CLIENTS ROWS | drill DIR SEED CLIENTS ROWS\n";
 
 fn fixed_line(status: Status) -> &'static str
-    ensures { HasFixedLine status → result.now ≡ refusal_text status }
+    requires { HasFixedLine status }
+    ensures { result.now ≡ refusal_text status }
 {
     match status {
         Status::Usage => USAGE,
@@ -30,7 +31,7 @@ fn fixed_line(status: Status) -> &'static str
         | Status::SinkFault
         | Status::Refused { at: _ }
         | Status::BadSchema { why: _ }
-        | Status::NotYet { line: _ } => "",
+        | Status::NotYet { line: _ } => unreachable!(),
     }
 }
 
@@ -44,6 +45,7 @@ fn put_number(text: &mut Vec<u8>, words: &[u8], number: u64) -> Result<(), NoMem
 }
 
 fn put_why(text: &mut Vec<u8>, why: SchemaError) -> Result<(), NoMemory>
+    requires { IsSaid why }
     ensures { OnOk result (text.new.items ≡ text.old.items ++ schema_refusal why) }
 {
     match why {
@@ -53,7 +55,7 @@ fn put_why(text: &mut Vec<u8>, why: SchemaError) -> Result<(), NoMemory>
         SchemaError::TooMany { count } => put_number(text, b"too many ", count)?,
         SchemaError::Twice { column } => put_number(text, b"twice ", u64::from(column))?,
         SchemaError::BadDefault { column } => put_number(text, b"default ", u64::from(column))?,
-        SchemaError::NoMemory => text.extend_from_slice(b"no memory")?,
+        SchemaError::NoMemory => unreachable!(),
     }
     Ok(())
 }
@@ -68,6 +70,7 @@ fn number_line(alloc: Global, words: &[u8], number: u64) -> Result<Vec<u8>, NoMe
 }
 
 fn schema_line(alloc: Global, why: SchemaError) -> Result<Vec<u8>, NoMemory>
+    requires { IsSaid why }
     ensures { IfOk result (λ text. text.items ≡ line_of (codes "error: schema " ++ schema_refusal why)) }
 {
     let mut text = Vec::from_slice(alloc, b"error: schema ")?;
@@ -111,8 +114,7 @@ fn refuse_by<K: Sink>(sink: &mut K, status: Status, line: Result<Vec<u8>, NoMemo
 /// Writes the line of a refusal. A line without a number takes no memory; where there is none for another, that is told.
 pub fn refuse<K: Sink>(alloc: Global, sink: &mut K, status: Status) -> Status
     requires { IsRefusal status }
-    ensures status { (result ≡ status) ⊎ (result ≡ Status.NoMemory) }
-    ensures fixed { HasFixedLine status → result ≡ status }
+    ensures told { IsToldAs status result }
     ensures line { WritesAlone (refusal_text result) (K.held sink.old) (K.held sink.new) (K.faults sink.old) (K.faults sink.new) }
     ensures later { K.faults sink.old ≤ K.faults sink.new }
 {

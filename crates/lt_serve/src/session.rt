@@ -1,19 +1,16 @@
 //! A session: each line in turn, answered by the table at the end of its history.
-ghost use Rattle.std.specs.Prelude.{◌≡◌, ◌++◌, ◌∷◌, ◌+◌, [], IsTrue, IfOk, OnOk, IfSome, IfNone, Some, ◌≤◌};
-ghost use Rattle.lt_io.specs.Device.{Counts};
+ghost use Rattle.std.specs.Prelude.{◌≡◌, ◌++◌, ◌≤◌, [], Option, IsTrue, IfOk, OnOk, OnErr};
+ghost use Rattle.lt_command.specs.declared.reply.Reply.{Reply as SomeReply};
 ghost use Rattle.lt_model.specs.Session.{IsMoment};
 ghost use Rattle.lt_model.specs.Legal.{IsLegal};
-ghost use Rattle.lt_model.specs.History.{Opening};
-ghost use Rattle.lt_plain.specs.Table.{IsUndamaged};
 ghost use Rattle.lt_serve.specs.Session.{lines_of, client_of, IsBuilt};
-ghost use Rattle.lt_serve.specs.Kept.{StaysKept};
-ghost use Rattle.lt_serve.specs.Growing.{asks_built, block_head, numbers_used, IsSpentFrom, Replies, Takes, HasHistory, IsAnswered};
+ghost use Rattle.lt_serve.specs.Growing.{asks_built, block_head, meter, shown, AnswersLine, AnswersFront, IsAnswered};
 
 use crate::store::Store;
 use lt_command::{Line, Reply};
 use lt_io::{Clock, Device};
 use lt_lang::{next_line, read_line};
-use lt_rec::{Label, NoMemory};
+use lt_rec::{Label, NoMemory, Octets};
 use lt_reply::{put_client, put_end, put_reply};
 use std::alloc::Global;
 
@@ -36,13 +33,7 @@ fn reply_to<V: Device, C: Clock>(
     line: Line,
 ) -> Option<Reply>
     requires built { IsTrue (asks_built line) }
-    ensures answered { Replies (C.shows clock.now) store.old.table store.new.table line result }
-    ensures kept { StaysKept V.honest store.old.table store.new.table store.old.anchor.directory store.new.anchor.directory }
-    ensures undamaged { IfSome result IsUndamaged }
-    ensures spent { IfSome result (IsSpentFrom store.old.next_file line) }
-    ensures used { IfSome result (λ reply. store.new.next_file ≤ store.old.next_file + numbers_used line reply) }
-    ensures unused { IfNone result (store.new.next_file ≡ store.old.next_file) }
-    ensures cause { Counts (V.faults device.old) (V.faults device.new) (result ≡ Some Reply.Fault) }
+    ensures { AnswersLine V.honest (C.shows clock.now) store.old.table store.new.table (meter (V.faults device.old) store.old.next_file store.old.anchor.directory) (meter (V.faults device.new) store.new.next_file store.new.anchor.directory) line result }
 {
     match line {
         Line::Skip => None,
@@ -58,6 +49,7 @@ fn reply_to<V: Device, C: Clock>(
     }
 }
 
+/// Answers a line, and appends the reply's text. The line is answered also where there is no memory for the text.
 fn answer_line<V: Device, C: Clock>(
     alloc: Global,
     store: &mut Store<V>,
@@ -67,10 +59,7 @@ fn answer_line<V: Device, C: Clock>(
     line: Line,
 ) -> Result<(), NoMemory>
     requires built { IsTrue (asks_built line) }
-    ensures takes { OnOk result (Takes (C.shows clock.now) store.old.table store.new.table text.old.items text.new.items (record { faults = V.faults device.old; next_file = store.old.next_file }) (record { faults = V.faults device.new; next_file = store.new.next_file }) line) }
-    ensures history { (opening : Opening) → HasHistory opening store.old.table → HasHistory opening store.new.table }
-    ensures kept { StaysKept V.honest store.old.table store.new.table store.old.anchor.directory store.new.anchor.directory }
-    ensures later { V.faults device.old ≤ V.faults device.new }
+    ensures { (reply : Option SomeReply) × AnswersLine V.honest (C.shows clock.now) store.old.table store.new.table (meter (V.faults device.old) store.old.next_file store.old.anchor.directory) (meter (V.faults device.new) store.new.next_file store.new.anchor.directory) line reply × OnOk result (text.new.items ≡ text.old.items ++ shown reply) }
 {
     match reply_to(alloc, store, device, clock, line) {
         Some(reply) => put_reply(text, &reply),
@@ -97,13 +86,12 @@ pub fn session_over<V: Device, C: Clock>(
     clock: &C,
     client: Option<Label>,
     input: &[u8],
-) -> Result<Vec<u8>, NoMemory>
+) -> Result<Octets, NoMemory>
     requires opens { IsLegal (record { opening = store.old.table; entries = [] }) }
     requires built { IsBuilt input.now }
     requires client { client ≡ client_of (lines_of input.now) }
-    ensures answered { IfOk result (λ text. IsAnswered (C.shows clock.now) store.old.table store.new.table input.now text.items (record { faults = V.faults device.old; next_file = store.old.next_file }) (record { faults = V.faults device.new; next_file = store.new.next_file })) }
-    ensures history { HasHistory store.old.table store.new.table }
-    ensures kept { StaysKept V.honest store.old.table store.new.table store.old.anchor.directory store.new.anchor.directory }
+    ensures answered { IfOk result (IsAnswered V.honest (C.shows clock.now) store.old.table store.new.table (meter (V.faults device.old) store.old.next_file store.old.anchor.directory) (meter (V.faults device.new) store.new.next_file store.new.anchor.directory) input.now) }
+    ensures front { OnErr result (AnswersFront V.honest (C.shows clock.now) store.old.table store.new.table (meter (V.faults device.old) store.old.next_file store.old.anchor.directory) (meter (V.faults device.new) store.new.next_file store.new.anchor.directory) input.now) }
     ensures later { V.faults device.old ≤ V.faults device.new }
 {
     let mut text = block_of(alloc, client)?;
@@ -114,5 +102,5 @@ pub fn session_over<V: Device, C: Clock>(
         rest = after;
     }
     put_end(&mut text, store.table().next(), store.table().kept())?;
-    Ok(text)
+    Ok(Octets::from_vec(text))
 }

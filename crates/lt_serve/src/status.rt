@@ -1,11 +1,4 @@
-ghost use Rattle.std.specs.Prelude.{◌≡◌};
-ghost use Rattle.lt_serve.specs.Status.{load_refusal, create_refusal};
-ghost use Rattle.lt_serve.specs.declared.status.Status.TheVariants.{NoMemory as WantOfMemory};
-
-use lt_commit::{CreateError, LoadError};
 use lt_json::SchemaError;
-use lt_rec::NoMemory;
-use std::alloc::AllocError;
 
 /// How a run ended.
 #[derive(Clone, Copy, Debug, PartialEq, Eq)]
@@ -62,47 +55,5 @@ impl Status {
             Status::Spent => 13,
             Status::NotYet { line: _ } => 14,
         }
-    }
-}
-
-impl From<LoadError> for Status {
-    ghost from_gives = { λ refused status. status ≡ load_refusal refused };
-
-    fn from(refused: LoadError) -> Status {
-        match refused {
-            LoadError::NoTable => Status::NoTable,
-            LoadError::Bad { at } => Status::Refused { at },
-            LoadError::Fault => Status::DeviceFault,
-            LoadError::NoMemory => Status::NoMemory,
-        }
-    }
-}
-
-impl From<CreateError> for Status {
-    ghost from_gives = { λ refused status. status ≡ create_refusal refused };
-
-    fn from(refused: CreateError) -> Status {
-        match refused {
-            CreateError::Exists => Status::Exists,
-            CreateError::Spent => Status::Spent,
-            CreateError::Fault => Status::DeviceFault,
-            CreateError::NoMemory => Status::NoMemory,
-        }
-    }
-}
-
-impl From<NoMemory> for Status {
-    ghost from_gives = { λ _ status. status ≡ WantOfMemory };
-
-    fn from(_refused: NoMemory) -> Status {
-        Status::NoMemory
-    }
-}
-
-impl From<AllocError> for Status {
-    ghost from_gives = { λ _ status. status ≡ WantOfMemory };
-
-    fn from(_refused: AllocError) -> Status {
-        Status::NoMemory
     }
 }

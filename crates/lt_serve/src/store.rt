@@ -1,7 +1,7 @@
 //! A table, and the directory whose descriptor tells of it.
-ghost use Rattle.std.specs.Prelude.{◌≡◌, ◌≢◌, ◌≤◌, ◌<◌, ◌^◌, IsTrue, IfOk, IfErr, OnErr, IsErrOf};
+ghost use Rattle.std.specs.Prelude.{◌≡◌, ◌≤◌, ◌^◌, ◌<◌, IsTrue, IfOk, OnErr};
 ghost use Rattle.lt_plain.specs.Table.{IsUndamaged};
-ghost use Rattle.lt_serve.specs.Kept.{commit_reply, is_ttl};
+ghost use Rattle.lt_serve.specs.Kept.{altered_reply, is_ttl};
 
 use lt_command::{Command, Reply};
 use lt_commit::{Anchor, CommitError};
@@ -40,10 +40,7 @@ fn reply_or_no_memory(answered: Result<Reply, NoMemory>) -> Reply
 
 /// The reply to a change, also to one that was not published.
 fn reply_to_change(altered: Result<Reply, CommitError>) -> Reply
-    ensures reply { IfOk altered (λ reply. result ≡ reply) }
-    ensures refused { IfErr altered (λ refused. result ≡ commit_reply refused) }
-    ensures undamaged { IfOk altered IsUndamaged → IsUndamaged result }
-    ensures spent { IfOk altered (λ reply. reply ≢ Reply.Spent) → result ≡ Reply.Spent → IsErrOf altered CommitError.Spent }
+    ensures { result ≡ altered_reply altered }
 {
     match altered {
         Ok(reply) => reply,
@@ -56,6 +53,7 @@ fn reply_to_change(altered: Result<Reply, CommitError>) -> Reply
 impl<V: Device> Store<V> {
     ghost use Rattle.std.specs.Prelude.{◌≡◌, ◌≢◌, ◌≤◌, ◌<◌, ◌+◌, ◌^◌, ◌∷◌, [], ℕ, true, Some, Ok, None, IfOk, IfErr, OnOk, OnErr, IsErrOf, IsTrue};
     ghost use Rattle.lt_io.specs.Device.{Counts};
+    ghost use Rattle.lt_io.specs.Directory.{lent};
     ghost use Rattle.lt_io.specs.Steps.{Steps};
     ghost use Rattle.lt_desc.specs.Lawful.{IsStone};
     ghost use Rattle.lt_desc.specs.Spelling.{spelling};
@@ -63,7 +61,7 @@ impl<V: Device> Store<V> {
     ghost use Rattle.lt_plain.specs.Table.{Answers, IsUndamaged};
     ghost use Rattle.lt_serve.specs.Session.{is_built};
     ghost use Rattle.lt_serve.specs.Growing.{is_change, number_weight, numbers_for};
-    ghost use Rattle.lt_serve.specs.Kept.{commit_reply, Renews, TellsOf, AllTell, Extends, StaysKept, head_of};
+    ghost use Rattle.lt_serve.specs.Kept.{commit_reply, altered_reply, head_of, Told, told_of, told_by_change, told_by_command, AllTell, Renews, StaysKept, LendsInTurn};
 
     /// A table, the anchor of its directory, and the next free file number.
     pub fn new(table: ListTable, anchor: Anchor<V>, next_file: u64) -> Store<V>
@@ -128,13 +126,14 @@ impl<V: Device> Store<V> {
         schemas: Schemas,
     ) -> Result<(), CommitError>
         ensures table { self.new.table ≡ self.old.table }
-        ensures any_moment { V.honest ≡ true → Steps (Renews (head_of self.old.table)) self.old.anchor.directory self.new.anchor.directory }
-        ensures published { V.honest ≡ true → OnOk result (AllTell (record self.old.table { schemas = schemas }) self.new.anchor.directory.now) }
-        ensures lost { V.honest ≡ true → Extends self.old.table.schemas schemas → AllTell self.old.table self.old.anchor.directory.now → AllTell self.old.table self.new.anchor.directory.now }
+        ensures any_moment { V.honest ≡ true → Steps (Renews (head_of self.old.table) (told_of schemas)) self.old.anchor.directory self.new.anchor.directory }
+        ensures published { V.honest ≡ true → OnOk result (AllTell (head_of self.old.table) (told_of schemas) self.new.anchor.directory.now) }
+        ensures only_lent { V.honest ≡ true → IsErrOf result CommitError.NoMemory → self.new.anchor.directory ≡ lent self.old.anchor.directory self.old.next_file }
+        ensures spent_none { IsErrOf result CommitError.Spent → self.new.anchor.directory ≡ self.old.anchor.directory }
         ensures spent { IsErrOf result CommitError.Spent → 2 ^ 62 ≤ self.old.next_file }
-        ensures unspent { OnOk result (self.old.next_file < 2 ^ 62) }
         ensures used { OnOk result (self.new.next_file ≤ self.old.next_file + 1) }
         ensures numbers { IfErr result (λ refused. self.new.next_file ≤ self.old.next_file + number_weight (commit_reply refused)) }
+        ensures lends { LendsInTurn self.old.next_file self.old.anchor.directory self.new.next_file self.new.anchor.directory }
         ensures cause { Counts (V.faults device.old) (V.faults device.new) (IsErrOf result CommitError.Fault) }
     {
         let file = self.next_file;
@@ -154,16 +153,13 @@ impl<V: Device> Store<V> {
         device: &mut V,
         change: &Change,
     ) -> Result<Reply, CommitError>
-        ensures answered { IfOk result (λ reply. (now : ℕ) → Answers self.old.table self.new.table now (Alter change.now) reply) }
-        ensures unchanged { OnErr result (self.new.table ≡ self.old.table) }
-        ensures kept { StaysKept V.honest self.old.table self.new.table self.old.anchor.directory self.new.anchor.directory }
-        ensures no_fault { IfOk result (λ reply. reply ≢ Reply.Fault) }
-        ensures unspent { IfOk result (λ reply. reply ≢ Reply.Spent) }
-        ensures undamaged { IfOk result IsUndamaged }
-        ensures spent { IsErrOf result CommitError.Spent → 2 ^ 62 ≤ self.old.next_file }
-        ensures used { IfOk result (λ reply. self.new.next_file ≤ self.old.next_file + number_weight reply) }
-        ensures numbers { IfErr result (λ refused. self.new.next_file ≤ self.old.next_file + number_weight (commit_reply refused)) }
-        ensures cause { Counts (V.faults device.old) (V.faults device.new) (IsErrOf result CommitError.Fault) }
+        ensures answered { (now : ℕ) → Answers self.old.table self.new.table now (Alter change.now) (altered_reply result) }
+        ensures kept { (told : Told) → told.versions ≡ self.old.table.schemas → StaysKept V.honest self.old.table self.new.table told (told_by_change change.now (altered_reply result) told) self.old.anchor.directory self.new.anchor.directory }
+        ensures undamaged { IsUndamaged (altered_reply result) }
+        ensures spent { altered_reply result ≡ Reply.Spent → 2 ^ 62 ≤ self.old.next_file }
+        ensures numbers { self.new.next_file ≤ self.old.next_file + number_weight (altered_reply result) }
+        ensures lends { LendsInTurn self.old.next_file self.old.anchor.directory self.new.next_file self.new.anchor.directory }
+        ensures cause { Counts (V.faults device.old) (V.faults device.new) (altered_reply result ≡ Reply.Fault) }
     {
         if let Err(why) = self.table.schemas().admits(change) {
             return Ok(Reply::Refused { why });
@@ -178,10 +174,11 @@ impl<V: Device> Store<V> {
     pub fn answer(&mut self, alloc: Global, device: &mut V, command: Command, now: u64) -> Reply
         requires built { IsTrue (is_built command) }
         ensures answered { Answers self.old.table self.new.table now command result }
-        ensures kept { StaysKept V.honest self.old.table self.new.table self.old.anchor.directory self.new.anchor.directory }
+        ensures kept { (told : Told) → told.versions ≡ self.old.table.schemas → StaysKept V.honest self.old.table self.new.table told (told_by_command command result told) self.old.anchor.directory self.new.anchor.directory }
         ensures undamaged { IsUndamaged result }
         ensures spent { IsTrue (is_change command) → result ≡ Reply.Spent → 2 ^ 62 ≤ self.old.next_file }
         ensures numbers { self.new.next_file ≤ self.old.next_file + numbers_for command result }
+        ensures lends { LendsInTurn self.old.next_file self.old.anchor.directory self.new.next_file self.new.anchor.directory }
         ensures cause { Counts (V.faults device.old) (V.faults device.new) (result ≡ Reply.Fault) }
     {
         match command {

@@ -1,5 +1,5 @@
-// Tables that are made, and the texts that say no schema.
-use super::{CREATE, SCHEMA, SESSION, run_anew, run_over};
+// Tables that are made, one that is there, and the texts that say no schema.
+use super::{CREATE, SCHEMA, SESSION, begun, run_anew, run_over, same, written};
 use itoa::Buffer;
 use std::alloc::{AllocError, Global};
 use std::test::Fail;
@@ -33,6 +33,25 @@ fn a_table_is_made_once(rt: HostRuntime) -> Result<(), Fail> {
             "{given:?}"
         );
     }
+    Ok(())
+}
+
+/// What `create` writes over a table whose schema was changed, and then a session that finds it.
+fn made_over_changed(alloc: Global) -> Result<Vec<u8>, Fail> {
+    let table = begun(alloc, &CREATE, "a: alter append up int64 3")?;
+    let again = run_over(alloc, table.dir, &[], &CREATE, b"")?;
+    let mut text = again.text;
+    let found = written(alloc, again.dir, "a: insert \"x\" 1 5 10 7\na: scan")?;
+    text.extend_from_slice(found.as_slice())?;
+    Ok(text)
+}
+
+#[test]
+fn a_table_that_exists_keeps_what_it_has(rt: HostRuntime) -> Result<(), Fail> {
+    let text = made_over_changed(rt.alloc())?;
+    let wanted =
+        "error: exists\nclient a\nok 0\nrows 1 all place 1 since 0\nrow \"x\" 1 5 10 7\nend next 1 kept 0\n";
+    same(&rt, text.as_slice(), wanted, "a table that is there");
     Ok(())
 }
 
