@@ -1,0 +1,10 @@
+pub mod Lists
+pub mod Stones
+pub mod Stood
+pub mod Spending
+pub mod Changed
+pub mod Given
+pub mod Recorded
+pub mod InMemory
+pub mod Found
+pub mod Released

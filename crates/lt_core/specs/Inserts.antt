@@ -1,0 +1,49 @@
+-- What a look-up of a row's key tells, and what adding the row makes of a core.
+use Rattle.std.specs.Prelude.{ℕ, ◌≡◌, ◌≢◌, ◌<◌, Bool, List, [], ◌∷◌, Contains}
+use Rattle.lt_rec.specs.Record.{Record}
+use Rattle.lt_schema.specs.declared.value.Value.{Value}
+use Rattle.lt_schema.specs.Check.{key_of}
+use Rattle.lt_schema.specs.Versions.{newest, newest_version}
+use Rattle.lt_codec.specs.Spelling.{record_of}
+use Rattle.lt_model.specs.History.{Numbered, row_entry, History}
+use Rattle.lt_model.specs.Readings.{rows, key_in}
+use Rattle.lt_trace.specs.Elements.{Story, entry, grown}
+use Rattle.lt_state.specs.State.{Core, Sealed, InMemory}
+use Rattle.lt_state.specs.Stands.{StandsFor}
+
+-- no row of the history that is numbered below this has the row's key
+abbrev pub IsClear : History → List Value → ℕ → Type 0
+IsClear h row clear = (x : Numbered) → Contains (rows h) x → x.seq < clear → key_in h x ≢ key_of h.opening.schemas.first row
+
+-- the row under a number and the newest version, and its record
+abbrev pub numbered_row : Core → ℕ → List Value → Numbered
+numbered_row c seq row = record { seq = seq; ver = newest_version c.schemas; row = row }
+
+abbrev pub row_record : Core → ℕ → List Value → Record
+row_record c seq row = record_of (newest c.schemas) (newest_version c.schemas) seq row
+
+-- where the core has a record
+pub data Place : Type 0 where
+  in_listed : Sealed → Place
+  in_tablet : ℕ → Place
+
+abbrev pub HasAt : Core → Place → Record → Type 0
+HasAt c (in_listed t) rec = Contains c.listed t × Contains t.recs rec
+HasAt c (in_tablet number) rec = InMemory c.memory number rec
+
+-- the core has a record with this key, of this number
+pub record HasRecord (c : Core) (key : List ℕ) (seq : ℕ) : Type 0 where
+  pub place : Place
+  pub rec : Record
+  pub held : HasAt c place rec
+  pub key_is : rec.key ≡ key
+  pub number : rec.seq ≡ seq
+
+-- each record with this key that the core has is numbered below this
+abbrev pub NoneFrom : Core → List ℕ → ℕ → Type 0
+NoneFrom c key clear = (place : Place) (rec : Record) → HasAt c place rec → rec.key ≡ key → rec.seq < clear
+
+-- the row joined one tablet in memory: for each story that the core stood for, it stands for that story with the row
+pub record TookRow (told : Bool) (old new : Core) (row : List Value) : Type 0 where
+  pub tablet : ℕ
+  pub stands : (s : Story) → StandsFor told old s → StandsFor told new (grown s (entry (row_entry (numbered_row old old.next row) tablet) ∷ []))
