@@ -10,3 +10,4 @@ pub mod Flushing
 pub mod Failing
 pub mod FlushFault
 pub mod Committing
+pub mod Purging

@@ -41,12 +41,12 @@ first_of [] some = absurd (some refl)
 first_of (rec ∷ recs) some = record { rec = rec; among = first_in rec recs }
 
 -- a file that is listed has its entry
-record ListedOf (tablets : List Listed) (file : ℕ) : Type 0 where
-  listed : Listed
-  among : Contains tablets listed
-  file_is : listed.file ≡ file
+pub record ListedOf (tablets : List Listed) (file : ℕ) : Type 0 where
+  pub listed : Listed
+  pub among : Contains tablets listed
+  pub file_is : listed.file ≡ file
 
-listed_of : (tablets : List Listed) (file : ℕ) → lists_file tablets file ≡ true → ListedOf tablets file
+pub listed_of : (tablets : List Listed) (file : ℕ) → lists_file tablets file ≡ true → ListedOf tablets file
 listed_of [] file e = cc
 listed_of (t ∷ tablets) file e = either (listed_of tablets file) (nat_eq t.file file) refl
   where
@@ -61,7 +61,7 @@ or_true : (b c : Bool) → c ≡ true → (b || c) ≡ true
 or_true true c e = refl
 or_true false c e = e
 
-lists_it : (tablets : List Listed) (listed : Listed) → Contains tablets listed → lists_file tablets listed.file ≡ true
+pub lists_it : (tablets : List Listed) (listed : Listed) → Contains tablets listed → lists_file tablets listed.file ≡ true
 lists_it [] listed among = absurd (omega (arith, among.1))
 lists_it (t ∷ tablets) listed among = ⊎_elim
     (λ same. true_or (nat_eq t.file listed.file) (lists_file tablets listed.file) (eq-eqb t.file listed.file (ap (λ (x : Listed). x.file) same)))

@@ -2,6 +2,7 @@
 ghost use Rattle.lt_events.specs.Committing.{GivenTakesAlong, GivenIsSame};
 ghost use Rattle.lt_events.specs.Flushing.{FlushStands, FlushFaultStands};
 ghost use Rattle.lt_events.specs.Laws.{LoadStands, RoomBegins, LendStands, TicketStands, ReleaseStands, SpentStands, SpentIsNoted, SpareStands, AlterStands, AlterFaultStands};
+ghost use Rattle.lt_events.specs.Purging.{PurgeStands, PurgeFaultStands};
 
 use lt_codec::rows_have_one_spelling;
 
@@ -48,3 +49,9 @@ pub fn a_given_flush_is_its_tablets()
 {
     rows_have_one_spelling();
 }
+
+/// A purge that was published, and one whose publishing failed.
+pub fn a_purge_stands()
+    ensures ok { PurgeStands }
+    ensures fault { PurgeFaultStands }
+{}
