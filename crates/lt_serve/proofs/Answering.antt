@@ -21,7 +21,7 @@ use Rattle.lt_model.proofs.Growth.{SoFar-nothing, SoFar-more, SoFar-bad}
 use Rattle.lt_plain.specs.Table.{StandsFor, IsUndamaged}
 use Rattle.lt_plain.proofs.Steps.{StandsFor-opening}
 use Rattle.lt_serve.specs.Session.{lines_of, IsRowOrChange}
-use Rattle.lt_serve.specs.Kept.{Head, head_of, Told, told_of, told_by_line, AllTell, Renews}
+use Rattle.lt_serve.specs.Kept.{Frame, frame_of, Told, told_of, told_by_line, AllTell, Renews}
 use Rattle.lt_serve.specs.ByLine.{LineEnd, begun_at, last_end}
 use Rattle.lt_serve.specs.Growing.{Meter, owned, asks_built, block_head, numbers_used, IsSpentFrom, UsesNumbers, replies_in, shown, AnswersLine, Stays, HasAnswered, AnswersFront, ReadSoFar}
 use Rattle.lt_serve.proofs.Telling.{owned-more}
@@ -31,8 +31,8 @@ use Rattle.lt_serve.proofs.Looked.{next_cut}
 use Rattle.lt_serve.proofs.Renewing.{lends_none, lends_join}
 use Rattle.lt_serve.proofs.LineByLine.{TellsSoFar-more}
 
-pub staying : (head : Head) → IsPreorder (Stays head)
-staying head = record {
+pub staying : (frame : Frame) → IsPreorder (Stays frame)
+staying frame = record {
   itself = λ state. record { files = refl; old_or_new = λ d was. inl was };
   further = λ before state after first then. record {
     files = then.files ∙ first.files;
@@ -48,12 +48,12 @@ HasAnswered-nothing honest clock opening began legal = record {
   stands = StandsFor-opening opening;
   so_far = SoFar-nothing clock (record { opening = opening; entries = [] }) legal;
   unflushed = tt;
-  head = refl;
+  frame = refl;
   faults = omega arith;
   undamaged = All-nil IsUndamaged;
   numbers = omega arith;
   lends = lends_none began.next_file began.directory;
-  any_moment = λ h. Steps-none (Stays (head_of opening)) (staying (head_of opening)) began.directory;
+  any_moment = λ h. Steps-none (Stays (frame_of opening)) (staying (frame_of opening)) began.directory;
   tells = λ h all. record { ends = []; by_line = tt; moment_is = refl; versions = refl; all_tell = all };
 }
 
@@ -73,7 +73,7 @@ answered_more : (honest : Bool) (clock : ℕ → Type 0) (opening held new : Ope
     → longer.opening ≡ opening → StandsFor new longer → SoFar clock 0 (lines ++ line ∷ []) (replies ++ reply ∷ []) longer → AllByRecursion IsRowOrChange longer.entries
     → HasAnswered honest clock opening new before next (lines ++ line ∷ []) (replies ++ reply ∷ []) longer
 answered_more honest clock opening held new before now next lines replies h longer line reply answered answers opened stands so_far unflushed =
-    let head = head_of opening in
+    let frame = frame_of opening in
     let at_first : Told = told_of held.schemas in
     let kept = answers.kept at_first refl in
     let later : Told = told_by_line line reply at_first in
@@ -82,25 +82,25 @@ answered_more honest clock opening held new before now next lines replies h long
       stands = stands;
       so_far = so_far;
       unflushed = unflushed;
-      head = kept.head ∙ answered.head;
+      frame = kept.frame ∙ answered.frame;
       faults = faults_more before.faults now.faults next.faults replies reply answered.faults (of_reply now.faults next.faults reply answers.faults);
       undamaged = All-append IsUndamaged replies (reply ∷ []) answered.undamaged (All-cons IsUndamaged reply [] answers.undamaged (All-nil IsUndamaged));
       numbers = uses_more before.next_file now.next_file next.next_file lines replies line reply answered.numbers answers.spent answers.used;
       lends = lends_join before.next_file now.next_file next.next_file before.directory now.directory next.directory answered.lends answers.lends;
-      any_moment = λ h. Steps-join (Stays head) (staying head) before.directory now.directory next.directory (answered.any_moment h)
-          (Steps-weaken (Renews head later) (Stays head)
+      any_moment = λ h. Steps-join (Stays frame) (staying frame) before.directory now.directory next.directory (answered.any_moment h)
+          (Steps-weaken (Renews frame later) (Stays frame)
           (λ old after renews. record { files = renews.files; old_or_new = λ d is. ⊎_elim (λ was. inl was) (λ made. inr (later, made)) (renews.old_or_new d is) })
-          now.directory next.directory (subst (λ (head : Head). Steps (Renews head later) now.directory next.directory) answered.head (kept.any_moment h)));
+          now.directory next.directory (subst (λ (frame : Frame). Steps (Renews frame later) now.directory next.directory) answered.frame (kept.any_moment h)));
       tells = λ h all.
           let first : LineEnd = begun_at (moment before.directory) opening.schemas in
           let told_so = answered.tells h all in
           let told = (last_end first told_so.ends).told in
           let stays = answers.kept told told_so.versions in
-          TellsSoFar-more head first held new lines replies now.directory next.directory line reply answered.head told_so
-          (subst (λ (head : Head). Steps (Renews head (told_by_line line reply told)) now.directory next.directory) answered.head (stays.any_moment h))
+          TellsSoFar-more frame first held new lines replies now.directory next.directory line reply answered.frame told_so
+          (subst (λ (frame : Frame). Steps (Renews frame (told_by_line line reply told)) now.directory next.directory) answered.frame (stays.any_moment h))
           stays.versions
-          (subst (λ (head : Head). AllTell head (told_by_line line reply told) next.directory.now) answered.head
-          (stays.all_tell h (subst (λ (head : Head). AllTell head told now.directory.now) (sym answered.head) told_so.all_tell)));
+          (subst (λ (frame : Frame). AllTell frame (told_by_line line reply told) next.directory.now) answered.frame
+          (stays.all_tell h (subst (λ (frame : Frame). AllTell frame told now.directory.now) (sym answered.frame) told_so.all_tell)));
     }
 
 abbrev Grown : Bool → (ℕ → Type 0) → Opening → Opening → Meter → Meter → List Line → List Reply → Type 0

@@ -28,7 +28,7 @@ use Rattle.lt_model.proofs.Crashes.{crashes_by_front}
 use Rattle.lt_plain.specs.Table.{state_of, StandsFor}
 use Rattle.lt_serve.specs.Loaded.{durable_by, opening_of}
 use Rattle.lt_serve.specs.Loading.{LoadsStone}
-use Rattle.lt_serve.specs.Kept.{Head, head_of, told_of, HasHead, TellsOf, AllTell, LendsInTurn}
+use Rattle.lt_serve.specs.Kept.{Frame, frame_of, told_of, HasFrame, TellsOf, AllTell, LendsInTurn}
 use Rattle.lt_serve.specs.ByLine.{begun_at}
 use Rattle.lt_serve.specs.Growing.{meter, UsesNumbers, TellsSome, Stays, TellsSoFar, HasAnswered}
 use Rattle.lt_serve.specs.Stops.{OpensAfter, StopsOpen, NumbersInTurn, Carries}
@@ -65,57 +65,57 @@ crash h stone other legal opened same =
     (crashes_by_front 0 h (durable_by other) (opening_of other) legal (omega (arith, begins, same))).0
     (record { schemas = refl; ttl = refl; low = refl; next = refl; kept = refl; rows_left = no_rows h stone (durable_by other) opened })
 
-opens_after : (h : History) (stone : StoneShape) (image : Image) → IsLegal h → h.opening ≡ opening_of stone → head_of (state_of h) ≡ head_of (opening_of stone) → TellsSome (head_of (opening_of stone)) image.descriptor → OpensAfter h image
+opens_after : (h : History) (stone : StoneShape) (image : Image) → IsLegal h → h.opening ≡ opening_of stone → frame_of (state_of h) ≡ frame_of (opening_of stone) → TellsSome (frame_of (opening_of stone)) image.descriptor → OpensAfter h image
 opens_after h stone image legal opened same (told, tells) = record {
   stone = tells.stone;
   found = opening_of tells.stone;
   opens = record { lawful = tells.lawful; spelled = tells.spelled; read = tells.read; bare = tells.bare; found_is = refl };
-  crash = crash h stone tells.stone legal opened (omega (arith, tells.head_is.kept, tells.head_is.unflushed));
-  head = subst (λ (head : Head). HasHead head tells.stone) (sym same) tells.head_is;
+  crash = crash h stone tells.stone legal opened (omega (arith, tells.frame_is.kept, tells.frame_is.unflushed));
+  frame = subst (λ (frame : Frame). HasFrame frame tells.stone) (sym same) tells.frame_is;
 }
 
 -- ---- all moments
 
-abbrev AllSome : Head → State → Type 0
-AllSome head state = (descriptor : Option (List ℕ)) → Contains state.may descriptor → TellsSome head descriptor
+abbrev AllSome : Frame → State → Type 0
+AllSome frame state = (descriptor : Option (List ℕ)) → Contains state.may descriptor → TellsSome frame descriptor
 
-still_tell : (head : Head) (before after : State) → Stays head before after → AllSome head before → AllSome head after
-still_tell head before after stays all d is = ⊎_elim (λ was. all d was) (λ new. new) (stays.old_or_new d is)
+still_tell : (frame : Frame) (before after : State) → Stays frame before after → AllSome frame before → AllSome frame after
+still_tell frame before after stays all d is = ⊎_elim (λ was. all d was) (λ new. new) (stays.old_or_new d is)
 
 module _ (honest : Bool) (old middle : Directory) (stone : StoneShape) (first : ℕ) (loads : LoadsStone honest old stone middle first) where
-  tells_first : (d : Option (List ℕ)) → Some (spelling stone) ≡ d → TellsOf (head_of (opening_of stone)) (told_of stone.schemas) d
+  tells_first : (d : Option (List ℕ)) → Some (spelling stone) ≡ d → TellsOf (frame_of (opening_of stone)) (told_of stone.schemas) d
   tells_first d is = record {
     stone = stone;
     lawful = loads.loaded.lawful;
     read = loads.read;
     spelled = sym is;
     bare = loads.bare;
-    head_is = record { kept = omega arith; unflushed = omega arith; low = refl; ttl = refl };
+    frame_is = record { kept = omega arith; unflushed = omega arith; low = refl; ttl = refl };
     versions = inl refl;
   }
 
-  pub all_first : honest ≡ true → AllTell (head_of (opening_of stone)) (told_of stone.schemas) middle.now
+  pub all_first : honest ≡ true → AllTell (frame_of (opening_of stone)) (told_of stone.schemas) middle.now
   all_first h d is = tells_first d (only_one (Some (spelling stone)) d (subst (λ may. Contains may d) (loads.only h) is))
 
   stops_open : (new : Directory) (held : Opening) (lines : List Line) (replies : List Reply) (history : History) → honest ≡ true → history.opening ≡ opening_of stone → IsLegal history → StandsFor held history
-      → head_of held ≡ head_of (opening_of stone) → Steps (Stays (head_of (opening_of stone))) middle new → TellsSoFar (head_of (opening_of stone)) (begun_at (moment middle) stone.schemas) held lines replies new
+      → frame_of held ≡ frame_of (opening_of stone) → Steps (Stays (frame_of (opening_of stone))) middle new → TellsSoFar (frame_of (opening_of stone)) (begun_at (moment middle) stone.schemas) held lines replies new
       → StopsOpen history lines replies old new
-  stops_open new held lines replies history h opened legal stands head steps tells =
-      let hd = head_of (opening_of stone) in
-      let same : head_of (state_of history) ≡ hd = ap head_of stands ∙ head in
-      let told : TellsSoFar (head_of (state_of history)) (begun_at (moment middle) history.opening.schemas) held lines replies new =
-      subst (λ (o : Opening). TellsSoFar (head_of (state_of history)) (begun_at (moment middle) o.schemas) held lines replies new) (sym opened)
-      (subst (λ (head : Head). TellsSoFar head (begun_at (moment middle) stone.schemas) held lines replies new) (sym same) tells) in
+  stops_open new held lines replies history h opened legal stands same_frame steps tells =
+      let frame = frame_of (opening_of stone) in
+      let same : frame_of (state_of history) ≡ frame = ap frame_of stands ∙ same_frame in
+      let told : TellsSoFar (frame_of (state_of history)) (begun_at (moment middle) history.opening.schemas) held lines replies new =
+      subst (λ (o : Opening). TellsSoFar (frame_of (state_of history)) (begun_at (moment middle) o.schemas) held lines replies new) (sym opened)
+      (subst (λ (frame : Frame). TellsSoFar frame (begun_at (moment middle) stone.schemas) held lines replies new) (sym same) tells) in
       record {
         loaded = moment middle;
         no_earlier = (loads.leaves.any_moment h).later;
         by_now = steps.later;
-        before = λ at image later early possible. loads.leaves.images h at image later ((PossibleAt-steps (Stays hd) middle new steps at early image).0 possible);
-        since = possible_each (AllSome hd) (OpensAfter history)
+        before = λ at image later early possible. loads.leaves.images h at image later ((PossibleAt-steps (Stays frame) middle new steps at early image).0 possible);
+        since = possible_each (AllSome frame) (OpensAfter history)
             (λ state image all fits. opens_after history stone image legal opened same (all image.descriptor fits.descriptor))
             (moment middle) new
-            (FromOn-steps (Stays hd) (AllSome hd) (still_tell hd) (moment middle) middle new (omega arith) steps
-            (FromOn-now (AllSome hd) middle (λ d is. (told_of stone.schemas, all_first h d is))));
+            (FromOn-steps (Stays frame) (AllSome frame) (still_tell frame) (moment middle) middle new (omega arith) steps
+            (FromOn-now (AllSome frame) middle (λ d is. (told_of stone.schemas, all_first h d is))));
         ends = told.ends;
         by_line = told.by_line;
         at_end = record {
@@ -149,7 +149,7 @@ module _ (honest : Bool) (old middle : Directory) (stone : StoneShape) (first : 
     faults = faults_from before _ began now answered.faults later;
     undamaged = answered.undamaged;
     numbers = numbers_in_turn new lines replies free answered.lends answered.numbers ceiling;
-    stops = λ h. stops_open new held lines replies history h answered.opened answered.so_far.legal answered.stands answered.head (answered.any_moment h) (answered.tells h (all_first h));
+    stops = λ h. stops_open new held lines replies history h answered.opened answered.so_far.legal answered.stands answered.frame (answered.any_moment h) (answered.tells h (all_first h));
   }
 
 -- ---- loading

@@ -4,7 +4,7 @@ use Rattle.lt_io.specs.Directory.{Image, Directory, PossibleAt}
 use Rattle.lt_command.specs.declared.command.Line.{Line}
 use Rattle.lt_command.specs.declared.reply.Reply.{Reply}
 use Rattle.lt_schema.specs.Versions.{SchemaVersions}
-use Rattle.lt_serve.specs.Kept.{Head, Told, told_of, told_by_line, TellsOf}
+use Rattle.lt_serve.specs.Kept.{Frame, Told, told_of, told_by_line, TellsOf}
 
 -- where a line's answer left off: the directory's moment, and what the replies so far say of the schema
 pub record LineEnd : Type 0 where
@@ -17,16 +17,16 @@ begun_at at versions = record { moment = at; told = told_of versions }
 
 -- While a line is answered, from one end to the next: at each moment each image that a stop may leave is told of by the
 -- replies before this one, or by this one too.
-pub record TellsLine (head : Head) (new : Directory) (line : Line) (reply : Reply) (from to : LineEnd) : Type 0 where
+pub record TellsLine (frame : Frame) (new : Directory) (line : Line) (reply : Reply) (from to : LineEnd) : Type 0 where
   pub later : from.moment ≤ to.moment
   pub told : to.told ≡ told_by_line line reply from.told
-  pub meanwhile : (at : ℕ) (image : Image) → from.moment ≤ at → at < to.moment → PossibleAt new at image → TellsOf head from.told image.descriptor ⊎ TellsOf head to.told image.descriptor
+  pub meanwhile : (at : ℕ) (image : Image) → from.moment ≤ at → at < to.moment → PossibleAt new at image → TellsOf frame from.told image.descriptor ⊎ TellsOf frame to.told image.descriptor
 
 -- so it is for each line
-abbrev pub TellsByLine : Head → Directory → LineEnd → List Line → List Reply → List LineEnd → Type 0
-TellsByLine head new from [] [] [] = ⊤
-TellsByLine head new from (line ∷ lines) (reply ∷ replies) (to ∷ ends) = TellsLine head new line reply from to × TellsByLine head new to lines replies ends
-TellsByLine head new from _ _ _ = ⊥
+abbrev pub TellsByLine : Frame → Directory → LineEnd → List Line → List Reply → List LineEnd → Type 0
+TellsByLine frame new from [] [] [] = ⊤
+TellsByLine frame new from (line ∷ lines) (reply ∷ replies) (to ∷ ends) = TellsLine frame new line reply from to × TellsByLine frame new to lines replies ends
+TellsByLine frame new from _ _ _ = ⊥
 
 abbrev pub last_end : LineEnd → List LineEnd → LineEnd
 last_end first [] = first

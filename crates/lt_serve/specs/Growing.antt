@@ -16,7 +16,7 @@ use Rattle.lt_model.specs.Session.{Block, IsMoment}
 use Rattle.lt_model.specs.Growing.{SoFar}
 use Rattle.lt_plain.specs.Table.{StandsFor, Answers, IsUndamaged}
 use Rattle.lt_serve.specs.Session.{lines_of, is_built, IsRowOrChange, IsSessionText}
-use Rattle.lt_serve.specs.Kept.{Head, head_of, Told, told_of, told_by_line, TellsOf, AllTell, StaysKept, LendsInTurn}
+use Rattle.lt_serve.specs.Kept.{Frame, frame_of, Told, told_of, told_by_line, TellsOf, AllTell, StaysKept, LendsInTurn}
 use Rattle.lt_serve.specs.ByLine.{LineEnd, begun_at, TellsByLine, last_end}
 
 -- the lines that belong to anybody
@@ -131,21 +131,21 @@ pub record AnswersLine (honest : Bool) (clock : ℕ → Type 0) (old new : Openi
   pub kept : (told : Told) → told.versions ≡ old.schemas → StaysKept honest old new told (told_by line reply told) before.directory now.directory
 
 -- where the lines so far left off, and that all that is possible is told of by their replies
-pub record TellsSoFar (head : Head) (first : LineEnd) (held : Opening) (lines : List Line) (replies : List Reply) (now : Directory) : Type 0 where
+pub record TellsSoFar (frame : Frame) (first : LineEnd) (held : Opening) (lines : List Line) (replies : List Reply) (now : Directory) : Type 0 where
   pub ends : List LineEnd
-  pub by_line : TellsByLine head now first lines replies ends
+  pub by_line : TellsByLine frame now first lines replies ends
   pub moment_is : (last_end first ends).moment ≡ moment now
   pub versions : (last_end first ends).told.versions ≡ held.schemas
-  pub all_tell : AllTell head (last_end first ends).told now.now
+  pub all_tell : AllTell frame (last_end first ends).told now.now
 
 -- a descriptor of the table, whatever is told of its schema
-abbrev pub TellsSome : Head → Option (List ℕ) → Type 0
-TellsSome head descriptor = (told : Told) × TellsOf head told descriptor
+abbrev pub TellsSome : Frame → Option (List ℕ) → Type 0
+TellsSome frame descriptor = (told : Told) × TellsOf frame told descriptor
 
 -- the files stand, and each possible descriptor was possible before or is one of the table
-pub record Stays (head : Head) (before after : State) : Type 0 where
+pub record Stays (frame : Frame) (before after : State) : Type 0 where
   pub files : after.files ≡ before.files
-  pub old_or_new : (descriptor : Option (List ℕ)) → Contains after.may descriptor → Contains before.may descriptor ⊎ TellsSome head descriptor
+  pub old_or_new : (descriptor : Option (List ℕ)) → Contains after.may descriptor → Contains before.may descriptor ⊎ TellsSome frame descriptor
 
 -- These lines, each of which belongs to somebody, are answered by these replies: the table holds what their history says, which began with the opening.
 pub record HasAnswered (honest : Bool) (clock : ℕ → Type 0) (opening held : Opening) (before now : Meter) (lines : List Line) (replies : List Reply) (history : History) : Type 0 where
@@ -153,13 +153,13 @@ pub record HasAnswered (honest : Bool) (clock : ℕ → Type 0) (opening held : 
   pub stands : StandsFor held history
   pub so_far : SoFar clock 0 lines replies history
   pub unflushed : AllByRecursion IsRowOrChange history.entries
-  pub head : head_of held ≡ head_of opening
+  pub frame : frame_of held ≡ frame_of opening
   pub faults : AtMostRose before.faults (faults_in replies) now.faults
   pub undamaged : All IsUndamaged replies
   pub numbers : UsesNumbers before.next_file lines replies now.next_file
   pub lends : LendsInTurn before.next_file before.directory now.next_file now.directory
-  pub any_moment : honest ≡ true → Steps (Stays (head_of opening)) before.directory now.directory
-  pub tells : honest ≡ true → AllTell (head_of opening) (told_of opening.schemas) before.directory.now → TellsSoFar (head_of opening) (begun_at (moment before.directory) opening.schemas) held lines replies now.directory
+  pub any_moment : honest ≡ true → Steps (Stays (frame_of opening)) before.directory now.directory
+  pub tells : honest ≡ true → AllTell (frame_of opening) (told_of opening.schemas) before.directory.now → TellsSoFar (frame_of opening) (begun_at (moment before.directory) opening.schemas) held lines replies now.directory
 
 -- a front of the input's lines is answered
 pub record AnswersFront (honest : Bool) (clock : ℕ → Type 0) (opening held : Opening) (before now : Meter) (input : List ℕ) : Type 0 where

@@ -35,13 +35,13 @@ is_ttl None = true
 is_ttl (Some ttl) = nat_le 1 ttl && nat_lt ttl (2 ^ 62)
 
 -- what a change of the schema leaves of a table: the number below which all is durable, the low bound, the time to live
-pub record Head : Type 0 where
+pub record Frame : Type 0 where
   pub kept : ℕ
   pub low : ℕ
   pub ttl : Option ℕ
 
-abbrev pub head_of : Opening → Head
-head_of held = record { kept = held.kept; low = held.low; ttl = held.ttl }
+abbrev pub frame_of : Opening → Frame
+frame_of held = record { kept = held.kept; low = held.low; ttl = held.ttl }
 
 -- what replies say of the schema: its versions, and the changes that were answered `fault` since the last that was made
 pub record Told : Type 0 where
@@ -77,38 +77,38 @@ abbrev pub HasVersions : Told → SchemaVersions → Type 0
 HasVersions told versions = (versions ≡ told.versions) ⊎ ((change : Change) × Contains told.faulted change × (versions ≡ changed_by told.versions change))
 
 -- A stone keeps what the table keeps, and no more while nothing is flushed; it has the table's low bound and time to live.
-pub record HasHead (head : Head) (stone : StoneShape) : Type 0 where
-  pub kept : head.kept ≤ stone.kept
-  pub unflushed : stone.kept ≤ head.kept
-  pub low : stone.low ≡ head.low
-  pub ttl : stone.ttl ≡ head.ttl
+pub record HasFrame (frame : Frame) (stone : StoneShape) : Type 0 where
+  pub kept : frame.kept ≤ stone.kept
+  pub unflushed : stone.kept ≤ frame.kept
+  pub low : stone.low ≡ frame.low
+  pub ttl : stone.ttl ≡ frame.ttl
 
--- The descriptor of a table with this head: it spells a lawful stone without tablets, whose schema is as was told.
-pub record TellsOf (head : Head) (told : Told) (descriptor : Option (List ℕ)) : Type 0 where
+-- The descriptor of a table with this frame: it spells a lawful stone without tablets, whose schema is as was told.
+pub record TellsOf (frame : Frame) (told : Told) (descriptor : Option (List ℕ)) : Type 0 where
   pub stone : StoneShape
   pub lawful : IsStone stone
   pub read : stone_at (spelling stone) ≡ Ok stone
   pub spelled : descriptor ≡ Some (spelling stone)
   pub bare : stone.tablets ≡ []
-  pub head_is : HasHead head stone
+  pub frame_is : HasFrame frame stone
   pub versions : HasVersions told stone.schemas
 
 -- each possible descriptor is such
-abbrev pub AllTell : Head → Told → State → Type 0
-AllTell head told state = (descriptor : Option (List ℕ)) → Contains state.may descriptor → TellsOf head told descriptor
+abbrev pub AllTell : Frame → Told → State → Type 0
+AllTell frame told state = (descriptor : Option (List ℕ)) → Contains state.may descriptor → TellsOf frame told descriptor
 
 -- while the schema changes: the files stand, and each possible descriptor was possible before or is such
-pub record Renews (head : Head) (told : Told) (before after : State) : Type 0 where
+pub record Renews (frame : Frame) (told : Told) (before after : State) : Type 0 where
   pub files : after.files ≡ before.files
-  pub old_or_new : (descriptor : Option (List ℕ)) → Contains after.may descriptor → Contains before.may descriptor ⊎ TellsOf head told descriptor
+  pub old_or_new : (descriptor : Option (List ℕ)) → Contains after.may descriptor → Contains before.may descriptor ⊎ TellsOf frame told descriptor
 
 -- What a command leaves of a table and of the directory that it is kept in: a descriptor that a stop may leave was possible
 -- before or is as is told later, at each moment; and where all were as was told, all are as is told later.
 pub record StaysKept (honest : Bool) (old new : Opening) (told later : Told) (before after : Directory) : Type 0 where
-  pub head : head_of new ≡ head_of old
+  pub frame : frame_of new ≡ frame_of old
   pub versions : later.versions ≡ new.schemas
-  pub any_moment : honest ≡ true → Steps (Renews (head_of old) later) before after
-  pub all_tell : honest ≡ true → AllTell (head_of old) told before.now → AllTell (head_of old) later after.now
+  pub any_moment : honest ≡ true → Steps (Renews (frame_of old) later) before after
+  pub all_tell : honest ≡ true → AllTell (frame_of old) told before.now → AllTell (frame_of old) later after.now
 
 -- file numbers are lent in turn: the first free one rises with each lend
 pub record LendsInTurn (free : ℕ) (old : Directory) (next : ℕ) (new : Directory) : Type 0 where

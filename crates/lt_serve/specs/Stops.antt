@@ -10,7 +10,7 @@ use Rattle.lt_model.specs.Growing.{SoFar}
 use Rattle.lt_model.specs.Crash.{IsCrash}
 use Rattle.lt_plain.specs.Table.{state_of, IsUndamaged}
 use Rattle.lt_serve.specs.Loaded.{durable_by, opening_of, OpensTo, IsLoadedFrom, first_free}
-use Rattle.lt_serve.specs.Kept.{head_of, HasHead, TellsOf}
+use Rattle.lt_serve.specs.Kept.{frame_of, HasFrame, TellsOf}
 use Rattle.lt_serve.specs.ByLine.{LineEnd, begun_at, TellsByLine, last_end}
 use Rattle.lt_serve.specs.Growing.{AtMostRose, faults_in, UsesNumbers}
 
@@ -21,13 +21,13 @@ pub record OpensAfter (h : History) (image : Image) : Type 0 where
   pub found : Opening
   pub opens : OpensTo image stone found
   pub crash : IsCrash h (durable_by stone) found
-  pub head : HasHead (head_of (state_of h)) stone
+  pub frame : HasFrame (frame_of (state_of h)) stone
 
 -- the end of a run: the versions that were told are the history's, and each image that a stop may leave now is told of so
 pub record IsEnd (h : History) (new : Directory) (last : LineEnd) : Type 0 where
   pub moment_is : last.moment ≡ moment new
   pub versions : last.told.versions ≡ schemas h
-  pub all_tell : (image : Image) → PossibleAt new (moment new) image → TellsOf (head_of (state_of h)) last.told image.descriptor
+  pub all_tell : (image : Image) → PossibleAt new (moment new) image → TellsOf (frame_of (state_of h)) last.told image.descriptor
 
 -- Until a table was loaded, a stop may leave what it might have left before; from then on each image that it may leave opens
 -- to the crash of the history. Line by line, each has the versions of the schema by the replies so far, or one change more
@@ -39,7 +39,7 @@ pub record StopsOpen (h : History) (lines : List Line) (replies : List Reply) (o
   pub before : (at : ℕ) (image : Image) → moment old ≤ at → at < loaded → PossibleAt new at image → Fits image old.now
   pub since : (at : ℕ) (image : Image) → loaded ≤ at → PossibleAt new at image → OpensAfter h image
   pub ends : List LineEnd
-  pub by_line : TellsByLine (head_of (state_of h)) new (begun_at loaded h.opening.schemas) lines replies ends
+  pub by_line : TellsByLine (frame_of (state_of h)) new (begun_at loaded h.opening.schemas) lines replies ends
   pub at_end : IsEnd h new (last_end (begun_at loaded h.opening.schemas) ends)
 
 -- File numbers go out in turn: none is skipped from the first free one on, and changes alone may use them.

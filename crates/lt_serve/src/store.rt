@@ -61,7 +61,7 @@ impl<V: Device> Store<V> {
     ghost use Rattle.lt_plain.specs.Table.{Answers, IsUndamaged};
     ghost use Rattle.lt_serve.specs.Session.{is_built};
     ghost use Rattle.lt_serve.specs.Growing.{is_change, number_weight, numbers_for};
-    ghost use Rattle.lt_serve.specs.Kept.{commit_reply, altered_reply, head_of, Told, told_of, told_by_change, told_by_command, AllTell, Renews, StaysKept, LendsInTurn};
+    ghost use Rattle.lt_serve.specs.Kept.{commit_reply, altered_reply, frame_of, Told, told_of, told_by_change, told_by_command, AllTell, Renews, StaysKept, LendsInTurn};
 
     /// A table, the anchor of its directory, and the next free file number.
     pub fn new(table: ListTable, anchor: Anchor<V>, next_file: u64) -> Store<V>
@@ -126,8 +126,8 @@ impl<V: Device> Store<V> {
         schemas: Schemas,
     ) -> Result<(), CommitError>
         ensures table { self.new.table ≡ self.old.table }
-        ensures any_moment { V.honest ≡ true → Steps (Renews (head_of self.old.table) (told_of schemas)) self.old.anchor.directory self.new.anchor.directory }
-        ensures published { V.honest ≡ true → OnOk result (AllTell (head_of self.old.table) (told_of schemas) self.new.anchor.directory.now) }
+        ensures any_moment { V.honest ≡ true → Steps (Renews (frame_of self.old.table) (told_of schemas)) self.old.anchor.directory self.new.anchor.directory }
+        ensures published { V.honest ≡ true → OnOk result (AllTell (frame_of self.old.table) (told_of schemas) self.new.anchor.directory.now) }
         ensures only_lent { V.honest ≡ true → IsErrOf result CommitError.NoMemory → self.new.anchor.directory ≡ lent self.old.anchor.directory self.old.next_file }
         ensures spent_none { IsErrOf result CommitError.Spent → self.new.anchor.directory ≡ self.old.anchor.directory }
         ensures spent { IsErrOf result CommitError.Spent → 2 ^ 62 ≤ self.old.next_file }

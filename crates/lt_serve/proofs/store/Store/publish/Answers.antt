@@ -1,7 +1,7 @@
 use Rattle.std.proofs.Common.{◌+◌, arith, refl}
 use Rattle.lt_serve.proofs.Replied.{used_one}
 use Rattle.lt_io.proofs.Chains.{Steps-none}
-use Rattle.lt_serve.specs.Kept.{head_of, told_of, Renews}
+use Rattle.lt_serve.specs.Kept.{frame_of, told_of, Renews}
 use Rattle.lt_serve.proofs.Renewing.{renewing, lends_none, lends_one, renewed, tell_published}
 use Rattle.lt_serve.proofs.store.Store.publish.Goals as goal
 
@@ -22,7 +22,7 @@ pub returns-clause-lends : goal.returns-clause-lends
 returns-clause-lends g c = lends_one c.args.self.now.next_file (c.args.self.now.next_file + 1) c.args.self.now.anchor.directory c.publish.new.self.directory refl c.publish.ensures.lends
 
 pub returns-then-file-ge-MOST-clause-any_moment : goal.returns-then-file-ge-MOST-clause-any_moment
-returns-then-file-ge-MOST-clause-any_moment g c = λ h. Steps-none (Renews (head_of c.args.self.now.table) (told_of c.args.schemas)) (renewing (head_of c.args.self.now.table) (told_of c.args.schemas)) c.args.self.now.anchor.directory
+returns-then-file-ge-MOST-clause-any_moment g c = λ h. Steps-none (Renews (frame_of c.args.self.now.table) (told_of c.args.schemas)) (renewing (frame_of c.args.self.now.table) (told_of c.args.schemas)) c.args.self.now.anchor.directory
 
 pub returns-then-file-ge-MOST-clause-lends : goal.returns-then-file-ge-MOST-clause-lends
 returns-then-file-ge-MOST-clause-lends g c = lends_none c.args.self.now.next_file c.args.self.now.anchor.directory
