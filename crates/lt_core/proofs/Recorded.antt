@@ -1,5 +1,5 @@
 -- The record of a row that passes is one of the row.
-use Rattle.std.proofs.Common.{◌≡◌, ℕ, ◌≤◌, Bool, true, false, cond, List, [], ◌∷◌, length, Ok, Err, refl, sym, ◌∙◌, ap, subst, arith}
+use Rattle.std.proofs.Common.{◌≡◌, ℕ, ◌-◌, ◌^◌, ◌≤◌, min, Bool, true, false, cond, List, [], ◌∷◌, length, Ok, Err, refl, sym, ◌∙◌, ap, subst, arith}
 use Rattle.std.specs.Prelude.{IsTrue, Result, nat_le}
 use Rattle.std.specs.List.{list_all}
 use Rattle.std.proofs.lemmas.List.{take_all}
@@ -15,6 +15,8 @@ use Rattle.lt_codec.specs.Spelling.{key_bytes, body_bytes, record_of}
 use Rattle.lt_codec.specs.Reading.{row_at, row_in}
 use Rattle.lt_codec.specs.Ordering.{fits_word, is_text}
 use Rattle.lt_trace.specs.Records.{IsRecordOf}
+use Rattle.lt_state.specs.State.{Core}
+use Rattle.lt_core.specs.Inserts.{numbered_row, row_record, number_for}
 
 -- what a row that passes is read back as
 abbrev pub ReadsBack : Type 0
@@ -58,3 +60,25 @@ is_record back v seq row lawful passes words texts = record {
   passes = subst (λ (s : SchemaShape). Passes s row) (sym (newest_is v)) passes;
   words = words;
 }
+
+-- what the code's record says of a row of the core
+pub record Made (c : Core) (row : List Value) (rec : Record) : Type 0 where
+  pub record_is : rec ≡ row_record c (number_for c) row
+  pub is : IsRecordOf c.schemas rec (numbered_row c (number_for c) row)
+  pub passes : Passes (newest c.schemas) row
+  pub time_is : rec.ts ≡ time_of c.schemas.first row
+
+made : ReadsBack → (c : Core) (row : List Value) → IsTrue (is_schema (newest c.schemas)) → Passes (newest c.schemas) row → IsTrue (list_all fits_word row) → IsTrue (list_all is_text row) → Made c row (row_record c (number_for c) row)
+made back c row lawful passes words texts = record {
+  record_is = refl;
+  is = is_record back c.schemas (number_for c) row lawful passes words texts;
+  passes = passes;
+  time_is = newest_time c.schemas row;
+}
+
+pub made_from : ReadsBack → (c old : Core) (schema : SchemaShape) (ver seq : ℕ) (row : List Value) (rec : Record) → c ≡ old → schema ≡ newest c.schemas → ver ≡ newest_version c.schemas → seq ≡ min c.next (2 ^ 62 - 1) → rec ≡ record_of schema ver seq row
+    → IsTrue (is_schema schema) → Passes schema row → IsTrue (list_all fits_word row) → IsTrue (list_all is_text row) → Made old row rec
+made_from back c old schema ver seq row rec same schema_is ver_is seq_is rec_is lawful passes words texts =
+    let all : rec ≡ row_record c (number_for c) row = rec_is ∙ (λ i. record_of (schema_is i) (ver_is i) (seq_is i) row) in
+    subst (λ (x : Core). Made x row rec) same
+    (subst (Made c row) (sym all) (made back c row (subst (λ (s : SchemaShape). IsTrue (is_schema s)) schema_is lawful) (subst (λ (s : SchemaShape). Passes s row) schema_is passes) words texts))

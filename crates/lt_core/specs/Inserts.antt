@@ -1,15 +1,17 @@
 -- What a look-up of a row's key tells, and what adding the row makes of a core.
-use Rattle.std.specs.Prelude.{ℕ, ◌≡◌, ◌≢◌, ◌<◌, Bool, List, [], ◌∷◌, Contains}
+use Rattle.std.specs.Prelude.{ℕ, ◌-◌, ◌^◌, ◌≡◌, ◌≢◌, ◌<◌, ⊤, min, Bool, List, [], ◌∷◌, Some, Contains}
 use Rattle.lt_rec.specs.Record.{Record}
 use Rattle.lt_schema.specs.declared.value.Value.{Value}
-use Rattle.lt_schema.specs.Check.{key_of}
+use Rattle.lt_schema.specs.Check.{Passes, row_fault, key_of, time_of}
 use Rattle.lt_schema.specs.Versions.{newest, newest_version}
 use Rattle.lt_codec.specs.Spelling.{record_of}
 use Rattle.lt_model.specs.History.{Numbered, row_entry, History}
-use Rattle.lt_model.specs.Readings.{rows, key_in}
+use Rattle.lt_model.specs.Readings.{rows, key_in, bound_at}
 use Rattle.lt_trace.specs.Elements.{Story, entry, grown}
 use Rattle.lt_state.specs.State.{Core, Sealed, InMemory}
 use Rattle.lt_state.specs.Stands.{StandsFor}
+use Rattle.lt_core.specs.declared.errors.InsertError.{InsertError}
+use Rattle.lt_core.specs.declared.errors.InsertError.TheVariants.{BadRow, TooOld, Present, Spent, Damaged, Fault, NoMemory}
 
 -- no row of the history that is numbered below this has the row's key
 abbrev pub IsClear : History → List Value → ℕ → Type 0
@@ -21,6 +23,26 @@ numbered_row c seq row = record { seq = seq; ver = newest_version c.schemas; row
 
 abbrev pub row_record : Core → ℕ → List Value → Record
 row_record c seq row = record_of (newest c.schemas) (newest_version c.schemas) seq row
+
+-- the next number or, where none is left, the last one
+abbrev pub number_for : Core → ℕ
+number_for c = min c.next (2 ^ 62 - 1)
+
+-- the row passes, and its timestamp is below the bound
+pub record IsTooOld (c : Core) (row : List Value) (now bound : ℕ) : Type 0 where
+  pub passes : Passes (newest c.schemas) row
+  pub bound_is : bound ≡ bound_at c.ttl c.low now
+  pub older : time_of c.schemas.first row < bound
+
+-- why a row is refused by itself
+abbrev pub IsRowRefusal : Core → List Value → ℕ → InsertError → Type 0
+IsRowRefusal c row now (BadRow fault) = row_fault (newest c.schemas) row ≡ Some fault
+IsRowRefusal c row now (TooOld bound) = IsTooOld c row now bound
+IsRowRefusal c row now NoMemory = ⊤
+IsRowRefusal c row now (Present seq) = ⊥
+IsRowRefusal c row now Spent = ⊥
+IsRowRefusal c row now (Damaged file at) = ⊥
+IsRowRefusal c row now Fault = ⊥
 
 -- where the core has a record
 pub data Place : Type 0 where

@@ -7,11 +7,12 @@ mod errors;
 mod laws;
 mod part;
 mod publishing;
+mod rows;
 mod state;
 mod tablets;
 mod tickets;
 
-pub use errors::CoreAlterError;
+pub use errors::{CoreAlterError, InsertError};
 pub use laws::stories_grow_by_parts;
 pub use part::Part;
 pub use state::Core;
