@@ -1,1 +1,6 @@
 pub mod Tablets
+pub mod Inserting
+pub mod Walking
+pub mod Going
+pub mod Sharing
+pub mod Waiting
