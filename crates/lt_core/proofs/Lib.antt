@@ -8,3 +8,4 @@ pub mod Recorded
 pub mod InMemory
 pub mod Found
 pub mod Released
+pub mod Sought

@@ -1,5 +1,5 @@
 -- What a look-up of a row's key tells, and what adding the row makes of a core.
-use Rattle.std.specs.Prelude.{ℕ, ◌-◌, ◌^◌, ◌≡◌, ◌≢◌, ◌<◌, ⊤, min, Bool, List, [], ◌∷◌, Some, Contains}
+use Rattle.std.specs.Prelude.{ℕ, ◌-◌, ◌^◌, ◌≡◌, ◌≢◌, ◌<◌, ⊤, min, Bool, List, [], ◌∷◌, Some, Contains, ◌&&◌, nat_le}
 use Rattle.lt_rec.specs.Record.{Record}
 use Rattle.lt_schema.specs.declared.value.Value.{Value}
 use Rattle.lt_schema.specs.Check.{Passes, row_fault, key_of, time_of}
@@ -8,6 +8,8 @@ use Rattle.lt_codec.specs.Spelling.{record_of}
 use Rattle.lt_model.specs.History.{Numbered, row_entry, History}
 use Rattle.lt_model.specs.Readings.{rows, key_in, bound_at}
 use Rattle.lt_trace.specs.Elements.{Story, entry, grown}
+use Rattle.lt_tablet.specs.Loaded.{Loaded}
+use Rattle.lt_probe.specs.Keys.{may_have_key}
 use Rattle.lt_state.specs.State.{Core, Sealed, InMemory}
 use Rattle.lt_state.specs.Stands.{StandsFor}
 use Rattle.lt_core.specs.declared.errors.InsertError.{InsertError}
@@ -69,3 +71,22 @@ NoneFrom c key clear = (place : Place) (rec : Record) → HasAt c place rec → 
 pub record TookRow (told : Bool) (old new : Core) (row : List Value) : Type 0 where
   pub tablet : ℕ
   pub stands : (s : Story) → StandsFor told old s → StandsFor told new (grown s (entry (row_entry (numbered_row old old.next row) tablet) ∷ []))
+
+-- ---- in files
+
+-- a listed tablet is read where its last number is no lower, and its span, filter and index all admit the key
+abbrev pub is_probed : List ℕ → ℕ → Loaded → Bool
+is_probed key clear t = nat_le clear t.listed.last && may_have_key key t
+
+-- one of these tablets has a record with the key, of this number
+pub record IsListedIn (tablets : List Sealed) (key : List ℕ) (seq : ℕ) : Type 0 where
+  pub tablet : Sealed
+  pub listed : Contains tablets tablet
+  pub rec : Record
+  pub among : Contains tablet.recs rec
+  pub key_is : rec.key ≡ key
+  pub number : rec.seq ≡ seq
+
+-- each record of these tablets that has the key is numbered below this
+abbrev pub NoneListedFrom : List Sealed → List ℕ → ℕ → Type 0
+NoneListedFrom tablets key clear = (t : Sealed) (rec : Record) → Contains tablets t → Contains t.recs rec → rec.key ≡ key → rec.seq < clear

@@ -8,6 +8,7 @@ mod laws;
 mod part;
 mod publishing;
 mod rows;
+mod seeking;
 mod state;
 mod tablets;
 mod tickets;
